@@ -1,0 +1,39 @@
+-- Laws of lists that the loops of several crates share.
+use Prim.Native.Nat.{ℕ, zero, suc, _+_, _-_, _≤_, _<_}
+use mathlib.Core.Path.{_≡_, refl, sym, ap, _∙_}
+use mathlib.Core.List.{List, [], _∷_, _++_, append-assoc, append-nil}
+use native.Mathlib.Numerals.{add-one, add-two}
+use native.Mathlib.Omega.{arith}
+use lib.ListN.{length, getD, take, drop, set, replicate, drop-of-length-le, take-append-drop, length-replicate, length-drop}
+use lib.Seq.{take-suc-set, drop-cons, drop-set-lt, take-all, append-snoc}
+
+-- two elements of a list from place i on, and the rest
+pub drop-two : (w : List ℕ) (i : ℕ) → i + 1 < length w → drop i w ≡ getD w i 0 ∷ getD w (i + 1) 0 ∷ drop (i + 2) w
+drop-two w i h = rw (add-one, add-two, drop-cons w i 0 (omega arith), drop-cons w (suc i) 0 (omega arith))
+
+-- a list filled from the front: where its first i elements and the target's others make the target, the store of the target's element
+-- at i makes it so of i + 1
+pub fill-next : (t l : List ℕ) (i v : ℕ) → i < length l → i < length t → getD t i 0 ≡ v → take i l ++ drop i t ≡ t
+    → take (i + 1) (set l i v) ++ drop (i + 1) t ≡ t
+fill-next t l i v hl ht e h =
+    rw (add-one, take-suc-set l i v hl, append-snoc (take i l) v (drop (suc i) t), ← e)
+    (rw (drop-cons t i 0 ht) at h)
+
+-- filled to its end it is the target
+pub fill-done : (t l : List ℕ) (i : ℕ) → length t ≡ length l → length l ≤ i → take i l ++ drop i t ≡ t → l ≡ t
+fill-done t l i e h q = sym (append-nil l) ∙ (rw (take-all i l h, drop-of-length-le t {i = i} (omega arith)) at q)
+
+-- filled to the target's end, it is the target and then what it had beyond
+pub fill-front : (t l : List ℕ) (i : ℕ) → length t ≤ i → take i l ++ drop i t ≡ t → l ≡ t ++ drop i l
+fill-front t l i h q = sym (take-append-drop i l) ∙ ap (λ (x : List ℕ). x ++ drop i l) (sym (append-nil (take i l)) ∙ (rw (drop-of-length-le t {i = i} h) at q))
+
+-- equal lists have equal rests
+pub rest-same : {a b : ℕ} {x y : List ℕ} → a ∷ x ≡ b ∷ y → x ≡ y
+rest-same e = cc
+
+-- a list of zeros from place i on is one from i + 1 on after a store at i
+pub zeros-next : (n : ℕ) (l : List ℕ) (i v : ℕ) → i < length l → drop i l ≡ replicate (n - i) 0 → drop (i + 1) (set l i v) ≡ replicate (n - (i + 1)) 0
+zeros-next n l i v h q =
+    let len : length l - i ≡ n - i = sym (length-drop i l) ∙ ap length q ∙ length-replicate (n - i) 0 in
+    let e : n - i ≡ suc (n - (i + 1)) = omega arith in
+    rw (drop-set-lt (i + 1) l i v (omega arith)) (rest-same (rw (drop-cons l i 0 h, e, ← add-one i) at q))

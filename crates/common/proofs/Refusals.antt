@@ -1,0 +1,32 @@
+-- Laws of refusal tables: what a passed table says of its rows, and a table made of two.
+use Prim.Native.Nat.{ℕ}
+use mathlib.Core.Path.{_≡_, refl}
+use mathlib.Core.Bool.{Bool, true, false, cond}
+use mathlib.Core.List.{List, [], _∷_, _++_}
+use mathlib.Core.Option.{Option, none, some, Option·some-ne-none, Option·none-ne-some}
+use Rattle.common.specs.Refusals.{Row, row, firstRefusal}
+
+-- a table whose rows all pass: its first row's test is false, and the others pass
+pub row-passed : (r : Row) (rest : List Row) → firstRefusal (r ∷ rest) ≡ none → (r .test ≡ false) × (firstRefusal rest ≡ none)
+unfolding firstRefusal
+row-passed r rest = go (r .test)
+  where
+    go : (t : Bool) → cond t (some (r .number)) (firstRefusal rest) ≡ none → (t ≡ false) × (firstRefusal rest ≡ none)
+    go true e = absurd (Option·some-ne-none (r .number) e)
+    go false e = (refl, e)
+
+-- a table made of two: the second counts where the first passes
+pub then-passed : (a b : List Row) → firstRefusal a ≡ none → firstRefusal (a ++ b) ≡ firstRefusal b
+unfolding firstRefusal
+then-passed [] b e = refl
+then-passed (r ∷ rest) b e = let p = row-passed r rest e in rw (p .0) (then-passed rest b (p .1))
+
+pub then-refused : (a b : List Row) (n : ℕ) → firstRefusal a ≡ some n → firstRefusal (a ++ b) ≡ some n
+unfolding firstRefusal
+then-refused [] b n e = absurd (Option·none-ne-some n e)
+then-refused (r ∷ rest) b n e = go (r .test) (then-refused rest b n) e
+  where
+    go : (t : Bool) → (firstRefusal rest ≡ some n → firstRefusal (rest ++ b) ≡ some n)
+        → cond t (some (r .number)) (firstRefusal rest) ≡ some n → cond t (some (r .number)) (firstRefusal (rest ++ b)) ≡ some n
+    go true ih e = e
+    go false ih e = ih e

@@ -1,0 +1,1 @@
+// No code: the definitions and laws that the crates above share are in specs/ and proofs/.

@@ -1,0 +1,102 @@
+-- Laws of little-endian numbers, each over the width: what reading gives past the end and from one byte more, its bound, what is
+-- read in an appended list, and that reading gives back what was stored.
+use Prim.Native.Nat.{ℕ, zero, suc, _+_, _-_, _*_, _/_, _%_, _^_, _≤_, _<_}
+use mathlib.Core.Path.{_≡_, refl, sym, ap, ap₂, _∙_}
+use mathlib.Core.List.{List, [], _∷_, _++_}
+use native.Mathlib.Nat.{add-zero, sub-self, sub-zero, div-lt-iff-lt-mul, one-le-pow, pow-suc, pow-le-pow-right}
+use native.Mathlib.Numerals.{add-one}
+use native.Mathlib.Omega.{arith}
+use lib.Dec.{lit<}
+use lib.ListN.{length, getD, set, length-set, List·getD-eq-default, List·getD-append}
+use lib.Seq.{sets, set-out, getD-append-add}
+use Rattle.numbers.specs.LittleEndian.{le, leBytes}
+
+-- past the end every number is 0
+pub le-past : (n : ℕ) (s : List ℕ) (at : ℕ) → length s ≤ at → le n s at ≡ 0
+unfolding le
+le-past zero s at h = refl
+le-past (suc n) s at h = rw (List·getD-eq-default s 0 h, le-past n s (at + 1) (omega arith))
+
+-- from the bytes above place i down to those from place i - 1
+pub le-more : (n : ℕ) (s : List ℕ) (at i : ℕ) → 0 < i → i ≤ n
+    → le (n - (i - 1)) s (at + (i - 1)) ≡ getD s (at + (i - 1)) 0 + 256 * le (n - i) s (at + i)
+unfolding le
+le-more n s at i p h =
+    let e : n - (i - 1) ≡ suc (n - i) = omega arith in
+    let q : at + (i - 1) + 1 ≡ at + i = omega arith in
+    ap (λ (k : ℕ). le k s (at + (i - 1))) e ∙ ap (λ (k : ℕ). getD s (at + (i - 1)) 0 + 256 * le (n - i) s k) q
+
+pub le-none : (n : ℕ) (s : List ℕ) (at : ℕ) → le (n - n) s at ≡ 0
+unfolding le
+le-none n s at = rw (sub-self n)
+
+pub le-whole : (n : ℕ) (s : List ℕ) (at : ℕ) → le (n - 0) s (at + 0) ≡ le n s at
+le-whole n s at = rw (sub-zero, add-zero)
+
+-- one byte more makes the bound 256 times as large
+pub bound-more : (n i v b : ℕ) → 0 < i → i ≤ n → v < 256 ^ (n - i) → b < 256 → v * 256 + b < 256 ^ (n - (i - 1))
+bound-more n i v b p h hv hb =
+    let e : n - (i - 1) ≡ suc (n - i) = omega arith in
+    rw (e, pow-suc 256 (n - i)) (omega arith)
+
+-- a number with a byte still to come fits 64 bits with it
+pub bound-fits : (n i v b : ℕ) → 0 < i → i ≤ n → n ≤ 8 → v < 256 ^ (n - i) → b < 256 → v * 256 + b < 2 ^ 64
+bound-fits n i v b p h k hv hb =
+    let w : 256 ^ (n - i) ≤ 256 ^ 7 = pow-le-pow-right (lit< tt) {i = n - i} {j = 7} (omega arith) in
+    omega arith
+
+pub bound-none : (n : ℕ) → 0 < 256 ^ n
+bound-none n = one-le-pow n 256 (lit< tt)
+
+-- stores at and past the end of a list leave it
+pub sets-past : (vs l : List ℕ) (at : ℕ) → length l ≤ at → sets l at vs ≡ l
+sets-past [] l at h = refl
+sets-past (v ∷ vs) l at h = rw (set-out l at v) (sets-past vs l (suc at) (omega arith))
+
+pub store-whole : (n : ℕ) (l : List ℕ) (at x : ℕ) → sets l at (leBytes n x) ≡ sets l (at + 0) (leBytes (n - 0) x)
+store-whole n l at x = rw (sub-zero, add-zero)
+
+-- the stores of x's bytes from place i on: none are left, or the lowest byte of what is left and then the rest
+pub store-none : (n : ℕ) (l : List ℕ) (at i x : ℕ) → n ≤ i → sets l (at + i) (leBytes (n - i) x) ≡ l
+unfolding leBytes
+store-none n l at i x h = let e : n - i ≡ 0 = omega arith in rw e
+
+pub store-more : (n : ℕ) (l : List ℕ) (at i x : ℕ) → i < n
+    → sets l (at + i) (leBytes (n - i) x) ≡ sets (set l (at + i) (x % 256)) (at + (i + 1)) (leBytes (n - (i + 1)) (x / 256))
+unfolding leBytes
+store-more n l at i x h =
+    let e : n - i ≡ suc (n - (i + 1)) = omega arith in
+    let q : suc (at + i) ≡ at + (i + 1) = omega arith in
+    ap (λ (k : ℕ). sets l (at + i) (leBytes k x)) e
+    ∙ ap (λ (k : ℕ). sets (set l (at + i) (x % 256)) k (leBytes (n - (i + 1)) (x / 256))) q
+
+-- x takes n bytes
+pub length-leBytes : (n x : ℕ) → length (leBytes n x) ≡ n
+unfolding leBytes
+length-leBytes zero x = refl
+length-leBytes (suc n) x = ap suc (length-leBytes n (x / 256))
+
+-- in a list made of two, a number that starts in the second is read there
+pub le-skip : (n : ℕ) (p q : List ℕ) (at : ℕ) → le n (p ++ q) (length p + at) ≡ le n q at
+unfolding le
+le-skip zero p q at = refl
+le-skip (suc n) p q at =
+    let e : length p + at + 1 ≡ length p + (at + 1) = omega arith in
+    rw (getD-append-add, e, le-skip n p q (at + 1))
+
+-- what was stored is read back, where it fits
+pub le-leBytes : (n x : ℕ) (r : List ℕ) → x < 256 ^ n → le n (leBytes n x ++ r) 0 ≡ x
+unfolding le leBytes
+le-leBytes zero x r h = omega arith
+le-leBytes (suc n) x r h =
+    let small : x / 256 < 256 ^ n = div-lt-iff-lt-mul (lit< tt) .1 (rw (← pow-suc 256 n) h) in
+    let e : le n (x % 256 ∷ (leBytes n (x / 256) ++ r)) 1 ≡ x / 256 = le-skip n (x % 256 ∷ []) (leBytes n (x / 256) ++ r) 0 ∙ le-leBytes n (x / 256) r small in
+    rw e (omega arith)
+
+-- a number lies where its bytes lie: lists that agree there hold the same number
+pub le-same : (n : ℕ) (s t : List ℕ) (at : ℕ) → ((i : ℕ) → at ≤ i → i < at + n → getD s i 0 ≡ getD t i 0) → le n s at ≡ le n t at
+unfolding le
+le-same zero s t at h = refl
+le-same (suc n) s t at h =
+    ap₂ (λ (a b : ℕ). a + 256 * b) (h at (omega arith) (omega arith))
+    (le-same n s t (at + 1) (λ i p q. h i (omega arith) (omega arith)))

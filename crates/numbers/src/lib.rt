@@ -1,0 +1,80 @@
+// Little-endian numbers in byte slices: read at any place, and stored at any place.
+//
+// No function here has a `requires`: a byte past the end reads as 0, and a byte that would lie past
+// the end is not stored. The crates above rest on these contracts alone.
+ghost use mathlib.Core.Path.{_≡_};
+ghost use Prim.Native.Nat.{_<_, _≤_, _^_};
+ghost use lib.ListN.{getD};
+ghost use lib.Seq.{sets};
+ghost use Rattle.numbers.specs.LittleEndian.{le, leBytes};
+
+// The byte at a place.
+pub fn byte_at(s: &[u8], at: usize) -> u8
+    ensures { λ r. ⌜ r ≡ getD (now (s .entry)) at 0 ⌝ }
+{
+    if at < s.len() { s[at] } else { 0 }
+}
+
+// The 16-bit number at a place.
+pub fn u16_at(s: &[u8], at: usize) -> u16
+    ensures { λ r. ⌜ r ≡ le 2 (now (s .entry)) at ⌝ }
+{
+    number_at(s, at, 2) as u16
+}
+
+// The 24-bit number at a place; it stays below 2 ^ 24.
+pub fn u24_at(s: &[u8], at: usize) -> u32
+    ensures { λ r. ⌜ (r ≡ le 3 (now (s .entry)) at) × (r < 2 ^ 24) ⌝ }
+{
+    number_at(s, at, 3) as u32
+}
+
+// The 32-bit number at a place.
+pub fn u32_at(s: &[u8], at: usize) -> u32
+    ensures { λ r. ⌜ r ≡ le 4 (now (s .entry)) at ⌝ }
+{
+    number_at(s, at, 4) as u32
+}
+
+// The 64-bit number at a place.
+pub fn u64_at(s: &[u8], at: usize) -> u64
+    ensures { λ r. ⌜ r ≡ le 8 (now (s .entry)) at ⌝ }
+{
+    number_at(s, at, 8)
+}
+
+// Stores the lowest `width` bytes of x, the lowest first, from a place on. Every other byte stays.
+pub fn store(s: &mut [u8], at: usize, width: usize, x: u64)
+    ensures { λ _. ⌜ now (s .exit) ≡ sets (now (s .entry)) at (leBytes width x) ⌝ }
+{
+    if s.len() <= at {
+        return;
+    }
+    let mut rest = x;
+    let mut i = 0;
+    while i < width {
+        if s.len() - at <= i {
+            return;
+        }
+        s[at + i] = (rest % 256) as u8;
+        rest = rest / 256;
+        i += 1;
+    }
+}
+
+// The number in the `width` bytes from a place on, from the highest byte down.
+fn number_at(s: &[u8], at: usize, width: usize) -> u64
+    requires { ⌜ width ≤ 8 ⌝ }
+    ensures { λ r. ⌜ (r ≡ le width (now (s .entry)) at) × (r < 256 ^ width) ⌝ }
+{
+    if s.len() <= at {
+        return 0;
+    }
+    let mut value: u64 = 0;
+    let mut i = width;
+    while 0 < i {
+        i -= 1;
+        value = value * 256 + byte_at(s, at + i) as u64;
+    }
+    value
+}

@@ -1,0 +1,122 @@
+-- Laws of the header: its fields one at a time, for the loops that read them, and what its refusal tables say.
+use Prim.Native.Nat.{ℕ, zero, suc, _+_, _-_, _*_, _/_, _%_, _≤_, _<_}
+use mathlib.Core.Path.{_≡_, refl, sym, ap, _∙_}
+use mathlib.Core.Bool.{Bool, true, false, not, _||_, or-true, true≢false}
+use mathlib.Core.List.{List, [], _∷_, _++_}
+use mathlib.Core.Option.{Option, none, some}
+use native.Mathlib.Nat.{add-zero, mul-zero, add-assoc}
+use native.Mathlib.Numerals.{add-one, add-two}
+use native.Mathlib.Omega.{arith}
+use borrow.Author.Tests.{lt-ltb, le-ltb, eq-eqb, ne-eqb, ltb-true, ltb-false, eqb-true}
+use lib.Dec.{eqb, ltb}
+use lib.ListN.{length, getD, take, drop, replicate, drop-of-length-le, length-append, length-replicate, List·getD-append, List·getD-eq-default}
+use lib.Seq.{drop-cons, getD-take, getD-drop}
+use Rattle.common.specs.Refusals.{firstRefusal, any}
+use Rattle.common.proofs.Refusals.{row-passed, then-passed, then-refused}
+use Rattle.common.proofs.Lists.{drop-two}
+use Rattle.numbers.specs.LittleEndian.{le}
+use Rattle.volume.specs.State.{stateOf, zeroState}
+use Rattle.volume.specs.Header.{headerLengthAt, wordsAt, wordSum, stateAt, headerLengthFault, bytesRefusals, fieldsRefusals, answered, stateBeside, openVolume}
+use Rattle.volume.specs.declared.header.Opening.the-variants as Opening
+use Rattle.volume.specs.declared.header.Opened.{Opened}
+
+-- k words, and the word at place i of them
+pub length-wordsAt : (k : ℕ) (s : List ℕ) (at : ℕ) → length (wordsAt k s at) ≡ k
+unfolding wordsAt
+length-wordsAt zero s at = refl
+length-wordsAt (suc k) s at = ap suc (length-wordsAt k s (at + 4))
+
+pub wordsAt-at : (k : ℕ) (s : List ℕ) (at i : ℕ) → i < k → getD (wordsAt k s at) i 0 ≡ le 4 s (at + 4 * i)
+unfolding wordsAt
+wordsAt-at zero s at i h = omega arith
+wordsAt-at (suc k) s at zero h = rw (mul-zero, add-zero)
+wordsAt-at (suc k) s at (suc i) h =
+    let e : at + 4 + 4 * i ≡ at + 4 * suc i = omega arith in
+    wordsAt-at k s (at + 4) i (omega arith) ∙ ap (λ (x : ℕ). le 4 s x) e
+
+-- a word of the sum, and the rest of it
+pub wordSum-next : (s : List ℕ) (i : ℕ) → i < length s → wordSum (drop i s) ≡ le 2 s i + wordSum (drop (i + 2) s)
+unfolding wordSum le
+wordSum-next s i h = go (ltb (i + 1) (length s)) refl
+  where
+    go : (t : Bool) → ltb (i + 1) (length s) ≡ t → wordSum (drop i s) ≡ le 2 s i + wordSum (drop (i + 2) s)
+    go true e = rw (drop-two s i (ltb-true (i + 1) (length s) e)) (omega arith)
+    go false e =
+        let past : length s ≤ i + 1 = ltb-false (i + 1) (length s) e in
+        let z : drop (suc i) s ≡ [] = drop-of-length-le s {i = suc i} (omega arith) in
+        rw (drop-cons s i 0 h, z, List·getD-eq-default s 0 {n = i + 1} past, drop-of-length-le s {i = i + 2} (omega arith)) (omega arith)
+
+pub wordSum-end : (s : List ℕ) (i : ℕ) → length s ≤ i → wordSum (drop i s) ≡ 0
+unfolding wordSum
+wordSum-end s i h = rw (drop-of-length-le s {i = i} h)
+
+-- ---- opening
+
+-- an answer says whether a row applied, and which number
+pub answered-success : (o : Option ℕ) → answered o ≡ Opening.Success → o ≡ none
+unfolding answered
+answered-success none e = refl
+answered-success (some n) e = cc
+
+pub answered-refused : (o : Option ℕ) (n : ℕ) → answered o ≡ Opening.Refused n → o ≡ some n
+unfolding answered
+answered-refused none n e = cc
+answered-refused (some m) n e = let z : m ≡ n = cc in ap some z
+
+-- what bytes that pass 101 to 104 are known to hold
+pub record Readable (s : List ℕ) : Type 0 where
+  pub long : 72 ≤ length s
+  pub least : 72 ≤ headerLengthAt s
+  pub most : headerLengthAt s ≤ 320
+  pub within : headerLengthAt s ≤ length s
+  pub whole : headerLengthAt s % 8 ≡ 0
+
+pub header-length-passed : (h lent : ℕ) → headerLengthFault h lent ≡ false → (72 ≤ h) × (h ≤ 320) × (h ≤ lent) × (h % 8 ≡ 0)
+unfolding headerLengthFault any
+header-length-passed h lent = go (eqb (h % 8) 0) (ltb h 72) (ltb 320 h) (ltb lent h) refl refl refl refl
+  where
+    go : (a b d e : Bool) → eqb (h % 8) 0 ≡ a → ltb h 72 ≡ b → ltb 320 h ≡ d → ltb lent h ≡ e → (not a || (b || (d || (e || false)))) ≡ false
+        → (72 ≤ h) × (h ≤ 320) × (h ≤ lent) × (h % 8 ≡ 0)
+    go true false false false p q r t z = (ltb-false h 72 q, ltb-false 320 h r, ltb-false lent h t, eqb-true (h % 8) 0 p)
+    go true false false true p q r t z = absurd (true≢false z)
+    go true false true e p q r t z = absurd (true≢false z)
+    go true true d e p q r t z = absurd (true≢false z)
+    go false b d e p q r t z = absurd (true≢false z)
+
+pub readable : (s : List ℕ) → firstRefusal (bytesRefusals s) ≡ none → Readable s
+unfolding bytesRefusals
+readable s p =
+    let r1 = row-passed _ _ p in
+    let r2 = row-passed _ _ (r1 .1) in
+    let r3 = row-passed _ _ (r2 .1) in
+    let r4 = row-passed _ _ (r3 .1) in
+    let h = header-length-passed (headerLengthAt s) (length s) (r4 .0) in
+    record { long = ltb-false (length s) 72 (r1 .0); least = h .0; most = h .1; within = h .2; whole = h .3 }
+
+-- a readable header's state has at most 32 entries
+pub entries-bound : (s : List ℕ) (base : ℕ) → Readable s → 2 * stateAt s base .entries ≤ 64
+unfolding stateAt stateOf
+entries-bound s base r = omega arith
+
+-- opening by its two tables
+pub open-early : (s : List ℕ) (base n : ℕ) → answered (firstRefusal (bytesRefusals s)) ≡ Opening.Refused n
+    → record { answer = answered (some n); state = zeroState } ≡ openVolume s base
+unfolding openVolume stateBeside
+open-early s base n e = rw (then-refused (bytesRefusals s) (fieldsRefusals s (stateAt s base)) n (answered-refused _ n e))
+
+pub open-late : (s : List ℕ) (base n : ℕ) → answered (firstRefusal (bytesRefusals s)) ≡ Opening.Success
+    → answered (firstRefusal (fieldsRefusals s (stateAt s base))) ≡ Opening.Refused n
+    → record { answer = answered (some n); state = zeroState } ≡ openVolume s base
+unfolding openVolume stateBeside
+open-late s base n p e =
+    rw (then-passed (bytesRefusals s) (fieldsRefusals s (stateAt s base)) (answered-success _ p), answered-refused _ n e)
+
+pub open-success : (s : List ℕ) (base : ℕ) → answered (firstRefusal (bytesRefusals s)) ≡ Opening.Success
+    → answered (firstRefusal (fieldsRefusals s (stateAt s base))) ≡ Opening.Success
+    → record { answer = Opening.Success; state = stateAt s base } ≡ openVolume s base
+unfolding openVolume stateBeside answered
+open-success s base p e =
+    rw (
+      then-passed (bytesRefusals s) (fieldsRefusals s (stateAt s base)) (answered-success (firstRefusal (bytesRefusals s)) p),
+      answered-success (firstRefusal (fieldsRefusals s (stateAt s base))) e,
+    )

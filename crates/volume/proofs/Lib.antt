@@ -1,0 +1,2 @@
+pub mod BlockMap
+pub mod HeaderLaws

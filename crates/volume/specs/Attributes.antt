@@ -1,0 +1,65 @@
+-- Volume attributes (document 01, Header: Attributes; 000's FVB_ATTRIBUTES). Document 01 calls those that a call reads and sets the
+-- settings.
+use Prim.Native.Nat.{ℕ, _/_, _%_}
+use mathlib.Core.Bool.{Bool, not, _&&_}
+use mathlib.Core.List.{List, [], _∷_}
+use lib.Dec.{eqb}
+use Rattle.common.specs.Refusals.{any}
+
+-- the attribute of value `bit` (a power of two) is set in `a`
+abbrev pub flag : ℕ → ℕ → Bool
+flag a bit = eqb (a / bit % 2) 1
+
+-- 1 read may be disabled; 2 read may be enabled; 4 read is enabled
+abbrev pub readDisableCap : ℕ
+readDisableCap = 0x1
+
+abbrev pub readEnableCap : ℕ
+readEnableCap = 0x2
+
+abbrev pub readStatus : ℕ
+readStatus = 0x4
+
+-- 8, 0x10, 0x20 the same for write
+abbrev pub writeDisableCap : ℕ
+writeDisableCap = 0x8
+
+abbrev pub writeEnableCap : ℕ
+writeEnableCap = 0x10
+
+abbrev pub writeStatus : ℕ
+writeStatus = 0x20
+
+-- 0x40 lock possible; 0x80 locked
+abbrev pub lockCap : ℕ
+lockCap = 0x40
+
+abbrev pub lockStatus : ℕ
+lockStatus = 0x80
+
+-- 0x200 sticky write; 0x400 memory mapped; 0x800 erase value of every bit
+abbrev pub stickyWrite : ℕ
+stickyWrite = 0x200
+
+abbrev pub memoryMapped : ℕ
+memoryMapped = 0x400
+
+abbrev pub erasePolarity : ℕ
+erasePolarity = 0x800
+
+-- 0x8000 alignment supported
+abbrev pub alignmentCap : ℕ
+alignmentCap = 0x8000
+
+-- 0x10000 to 0x80000000: the alignments 2 to 64K
+abbrev pub alignments : ℕ → ℕ
+alignments a = a / 0x10000
+
+-- 108: others (0x100, 0x1000, 0x2000, 0x4000) must be zero, and without 0x8000 all alignment bits too
+unfoldable pub attributesFault : ℕ → Bool
+attributesFault a =
+    any (flag a 0x100 ∷ flag a 0x1000 ∷ flag a 0x2000 ∷ flag a 0x4000 ∷ (not (flag a alignmentCap) && not (eqb (alignments a) 0)) ∷ [])
+
+-- 110: memory mapped and base not a multiple of 8
+unfoldable pub baseFault : ℕ → ℕ → Bool
+baseFault a base = flag a memoryMapped && not (eqb (base % 8) 0)

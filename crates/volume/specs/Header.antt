@@ -1,0 +1,155 @@
+-- The volume header (document 01, Header; 000's EFI_FIRMWARE_VOLUME_HEADER): what opening reads from it, and what writing stores.
+-- "Lent" bytes are the caller's slice. Reserved bytes (52..54) and the zero vector (0..15) are read by nothing but the word sum.
+use Prim.Native.Nat.{ℕ, zero, suc, _+_, _-_, _*_, _/_, _%_}
+use mathlib.Core.Bool.{Bool, not, _||_}
+use mathlib.Core.List.{List, [], _∷_, _++_}
+use mathlib.Core.Option.{Option, none, some}
+use lib.Dec.{eqb, ltb}
+use lib.ListN.{length, getD, take, drop, replicate}
+use Rattle.common.specs.Refusals.{Row, row, firstRefusal, any}
+use Rattle.numbers.specs.LittleEndian.{le, leBytes}
+use Rattle.volume.specs.Attributes.{attributesFault, baseFault}
+use Rattle.volume.specs.BlockMap.{headerLength, maxEntries, hasZero, sizeFault}
+use Rattle.volume.specs.State.{stateOf, zeroState, mapOf}
+use Rattle.volume.specs.declared.state.State.{State}
+use Rattle.volume.specs.declared.header.Opening.{Opening}
+use Rattle.volume.specs.declared.header.Opening.the-variants as Opening
+use Rattle.volume.specs.declared.header.Opened.{Opened}
+use Rattle.volume.specs.declared.header.Written.{Written}
+use Rattle.volume.specs.declared.header.Written.the-variants as Written
+
+-- ---- fields
+
+-- bytes 40..43: signature 5F 46 56 48, "_FVH"
+abbrev pub signature : ℕ
+signature = 0x4856465F
+
+-- the fewest bytes of a header: one map entry and the closing pair
+abbrev pub minHeader : ℕ
+minHeader = headerLength 1
+
+-- bytes 48..49: header length
+abbrev pub headerLengthAt : List ℕ → ℕ
+headerLengthAt s = le 2 s 48
+
+-- the number of map entries that a header length stands for
+abbrev pub entriesOf : ℕ → ℕ
+entriesOf h = (h - 64) / 8
+
+-- k 32-bit words from byte `at` on
+unfoldable pub wordsAt : ℕ → List ℕ → ℕ → List ℕ
+wordsAt zero s at = []
+wordsAt (suc k) s at = le 4 s at ∷ wordsAt k s (at + 4)
+
+-- the true sum of the 16-bit words of a byte string
+unfoldable pub wordSum : List ℕ → ℕ
+wordSum [] = 0
+wordSum (a ∷ []) = a
+wordSum (a ∷ b ∷ rest) = a + 256 * b + wordSum rest
+
+-- ---- opening
+
+-- GUID, length, attributes and map as the header has them, and the base given
+unfoldable pub stateAt : List ℕ → ℕ → State
+stateAt s base =
+    let n = entriesOf (headerLengthAt s) in
+    stateOf (take 16 (drop 16 s)) (le 8 s 32) (le 4 s 44) base n (wordsAt (2 * n) s 56)
+
+-- 104: header length not a multiple of 8, below 72, above 320 or past the lent bytes
+unfoldable pub headerLengthFault : ℕ → ℕ → Bool
+headerLengthFault h lent = any (not (eqb (h % 8) 0) ∷ ltb h minHeader ∷ ltb (headerLength maxEntries) h ∷ ltb lent h ∷ [])
+
+-- 106: a map pair before the last has a zero count or zero length, or the last is not 0, 0
+unfoldable pub mapFault : List ℕ → State → Bool
+mapFault s st = hasZero (mapOf st) || not (eqb (le 8 s (headerLengthAt s - 8)) 0)
+
+-- the refusals of opening, in order: 101 to 105, of the bytes, and 106 to 110, of what the state would be
+unfoldable pub bytesRefusals : List ℕ → List Row
+bytesRefusals s =
+    row (ltb (length s) minHeader) 101
+    ∷ row (not (eqb (le 4 s 40) signature)) 102
+    ∷ row (not (eqb (getD s 55 0) 1)) 103
+    ∷ row (headerLengthFault (headerLengthAt s) (length s)) 104
+    ∷ row (not (eqb (wordSum (take (headerLengthAt s) s) % 65536) 0)) 105
+    ∷ []
+
+unfoldable pub fieldsRefusals : List ℕ → State → List Row
+fieldsRefusals s st =
+    row (mapFault s st) 106
+    ∷ row (sizeFault (st .entries) (mapOf st) (st .length)) 107
+    ∷ row (attributesFault (st .attributes)) 108
+    ∷ row (ltb (length s) (st .length)) 109
+    ∷ row (baseFault (st .attributes) (st .base)) 110
+    ∷ []
+
+-- the answer of opening: success where no row applies
+unfoldable pub answered : Option ℕ → Opening
+answered none = Opening.Success
+answered (some n) = Opening.Refused n
+
+-- the state beside it: on a refusal the zero state
+unfoldable pub stateBeside : Option ℕ → State → State
+stateBeside none st = st
+stateBeside (some n) st = zeroState
+
+-- opening: the lent bytes and a base address
+unfoldable pub openVolume : List ℕ → ℕ → Opened
+openVolume s base =
+    let refusal = firstRefusal (bytesRefusals s ++ fieldsRefusals s (stateAt s base)) in
+    record { answer = answered refusal; state = stateBeside refusal (stateAt s base) }
+
+-- ---- writing
+
+-- map words as bytes
+unfoldable pub wordsBytes : List ℕ → List ℕ
+wordsBytes [] = []
+wordsBytes (w ∷ rest) = leBytes 4 w ++ wordsBytes rest
+
+-- the header's bytes before its checksum (0..49)
+unfoldable pub headerFront : List ℕ → ℕ → ℕ → List ℕ → List ℕ
+headerFront guid len attributes words =
+    replicate 16 0
+    ++ (guid ++ (leBytes 8 len ++ (leBytes 4 signature ++ (leBytes 4 attributes ++ leBytes 2 (headerLength (length words / 2))))))
+
+-- and after it (52 on): the reserved bytes, the revision, the map and its closing pair
+unfoldable pub headerBack : List ℕ → List ℕ
+headerBack words = (0 ∷ 0 ∷ 0 ∷ 1 ∷ []) ++ (wordsBytes words ++ replicate 8 0)
+
+-- a header with this checksum
+unfoldable pub headerWith : ℕ → List ℕ → ℕ → ℕ → List ℕ → List ℕ
+headerWith sum guid len attributes words = headerFront guid len attributes words ++ (leBytes 2 sum ++ headerBack words)
+
+-- the checksum that brings a sum of words to 0 modulo 65,536
+abbrev pub checksum : ℕ → ℕ
+checksum sum = (65536 - sum % 65536) % 65536
+
+-- the header of a volume, its checksum worked out
+unfoldable pub headerBytes : List ℕ → ℕ → ℕ → List ℕ → List ℕ
+headerBytes guid len attributes words = headerWith (checksum (wordSum (headerWith 0 guid len attributes words))) guid len attributes words
+
+-- 106 at writing: a zero word or an odd number of map words
+unfoldable pub wordsFault : List ℕ → Bool
+wordsFault words = hasZero words || not (eqb (length words % 2) 0)
+
+-- the refusals of writing, in order; `room` is the length of the lent room
+unfoldable pub writeRefusals : ℕ → ℕ → List ℕ → ℕ → List Row
+writeRefusals len attributes words room =
+    row (wordsFault words) 106
+    ∷ row (sizeFault (length words / 2) words len) 107
+    ∷ row (attributesFault attributes) 108
+    ∷ row (ltb room (headerLength (length words / 2))) 5
+    ∷ []
+
+-- what writing answers, and the room afterwards
+pub record HeaderWritten : Type 0 where
+  pub answer : Written
+  pub room : List ℕ
+
+unfoldable pub writtenBy : Option ℕ → List ℕ → List ℕ → HeaderWritten
+writtenBy none header room = record { answer = Written.Success (length header); room = header ++ drop (length header) room }
+writtenBy (some n) header room = record { answer = Written.Refused n; room = room }
+
+-- writing a header at the start of a room
+unfoldable pub writeHeader : List ℕ → ℕ → ℕ → List ℕ → List ℕ → HeaderWritten
+writeHeader guid len attributes words room =
+    writtenBy (firstRefusal (writeRefusals len attributes words (length room))) (headerBytes guid len attributes words) room

@@ -1,0 +1,4 @@
+pub mod Attributes
+pub mod BlockMap
+pub mod Header
+pub mod State

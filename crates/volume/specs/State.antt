@@ -1,0 +1,33 @@
+-- The state (document 01: "opening answers a state: GUID, length, attributes, map, base"). It is the struct `State` of src/state.rt.
+use Prim.Native.Nat.{ℕ, _-_, _*_}
+use mathlib.Core.Bool.{Bool, not}
+use mathlib.Core.List.{List, [], _∷_, _++_}
+use lib.ListN.{take, drop, replicate}
+use Rattle.common.specs.Refusals.{any}
+use Rattle.volume.specs.Attributes.{attributesFault, baseFault}
+use Rattle.volume.specs.BlockMap.{hasZero, sizeFault, allZero}
+use Rattle.volume.specs.declared.state.State.{State}
+
+-- a state from its parts: the map words go first in `map`, and zeros fill the rest of its 64 words
+unfoldable pub stateOf : List ℕ → ℕ → ℕ → ℕ → ℕ → List ℕ → State
+stateOf guid len attributes base n words =
+    record { guid = guid; length = len; attributes = attributes; base = base; entries = n; map = words ++ replicate (64 - 2 * n) 0 }
+
+-- the zero state, which stands beside a refusal of opening
+unfoldable pub zeroState : State
+zeroState = record { guid = replicate 16 0; length = 0; attributes = 0; base = 0; entries = 0; map = replicate 64 0 }
+
+-- the block map of a state: the words of its entries
+unfoldable pub mapOf : State → List ℕ
+mapOf st = take (2 * st .entries) (st .map)
+
+-- 111: a state that breaks 106, 107, 108 or 110, or is not zero beyond its entries
+unfoldable pub unlawful : State → Bool
+unlawful st =
+    any
+    (hasZero (mapOf st)
+    ∷ sizeFault (st .entries) (mapOf st) (st .length)
+    ∷ attributesFault (st .attributes)
+    ∷ baseFault (st .attributes) (st .base)
+    ∷ not (allZero (drop (2 * st .entries) (st .map)))
+    ∷ [])

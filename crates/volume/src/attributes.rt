@@ -1,0 +1,60 @@
+// Volume attributes: the bits by 000's names, and document 01's rules 108 and 110.
+ghost use mathlib.Core.Path.{_≡_};
+ghost use Rattle.volume.specs.Attributes.{attributesFault, baseFault};
+
+pub const READ_DISABLE_CAP: u32 = 0x1;
+
+pub const READ_ENABLE_CAP: u32 = 0x2;
+
+pub const READ_STATUS: u32 = 0x4;
+
+pub const WRITE_DISABLE_CAP: u32 = 0x8;
+
+pub const WRITE_ENABLE_CAP: u32 = 0x10;
+
+pub const WRITE_STATUS: u32 = 0x20;
+
+pub const LOCK_CAP: u32 = 0x40;
+
+pub const LOCK_STATUS: u32 = 0x80;
+
+pub const STICKY_WRITE: u32 = 0x200;
+
+pub const MEMORY_MAPPED: u32 = 0x400;
+
+pub const ERASE_POLARITY: u32 = 0x800;
+
+pub const ALIGNMENT_CAP: u32 = 0x8000;
+
+// Whether attributes break rule 108: a bit that must be zero is set, or an alignment without
+// the alignment capability.
+pub(crate) fn attributes_fault(a: u32) -> bool
+    ensures { λ r. ⌜ r ≡ attributesFault a ⌝ }
+{
+    if a / 0x100 % 2 == 1 {
+        return true;
+    }
+    if a / 0x1000 % 2 == 1 {
+        return true;
+    }
+    if a / 0x2000 % 2 == 1 {
+        return true;
+    }
+    if a / 0x4000 % 2 == 1 {
+        return true;
+    }
+    if a / ALIGNMENT_CAP % 2 == 1 {
+        return false;
+    }
+    a / 0x10000 != 0
+}
+
+// Whether attributes and base break rule 110: memory mapped, and the base no multiple of 8.
+pub(crate) fn base_fault(a: u32, base: u64) -> bool
+    ensures { λ r. ⌜ r ≡ baseFault a base ⌝ }
+{
+    if a / MEMORY_MAPPED % 2 == 1 {
+        return base % 8 != 0;
+    }
+    false
+}

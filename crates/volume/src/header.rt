@@ -1,0 +1,201 @@
+// The volume header: opening a volume, and writing a header.
+ghost use mathlib.Core.Path.{_≡_};
+ghost use mathlib.Core.List.{_++_};
+ghost use mathlib.Core.Option.{some};
+ghost use Prim.Native.Nat.{_-_, _*_, _≤_};
+ghost use lib.ListN.{length, take, drop, replicate};
+ghost use Rattle.common.specs.Refusals.{firstRefusal};
+ghost use Rattle.volume.specs.Header.{answered, bytesRefusals, fieldsRefusals, headerLengthAt, headerLengthFault, mapFault, openVolume, stateAt, wordSum, wordsAt};
+ghost use Rattle.volume.specs.State.{zeroState};
+use crate::attributes::attributes_fault;
+use crate::attributes::base_fault;
+use crate::block_map::has_zero;
+use crate::block_map::size_fault;
+use crate::state::State;
+
+// "_FVH", as the little-endian number of its bytes.
+pub const SIGNATURE: u32 = 0x4856465F;
+
+// What opening answers: success, or the refusal's number in document 01 (101 to 110).
+pub enum Opening {
+    Success,
+    Refused(u16),
+}
+
+// The answer, and the state; on a refusal the zero state.
+pub struct Opened {
+    pub answer: Opening,
+    pub state: State,
+}
+
+// What writing a header answers: its length, or the refusal's number in document 01.
+pub enum Written {
+    Success(usize),
+    Refused(u16),
+}
+
+// Opens a volume: answers the state that its header and the base address give, or the first of 101 to
+// 110 that applies. Only the header is read, once.
+pub fn open_volume(volume: &[u8], base: u64) -> Opened
+    ensures { λ r. ⌜ r ≡ openVolume (now (volume .entry)) base ⌝ }
+{
+    let early = bytes_refusal(volume);
+    if let Opening::Refused(n) = early {
+        return refused(n);
+    }
+    let state = state_at(volume, base);
+    let late = fields_refusal(volume, state);
+    if let Opening::Refused(n) = late {
+        return refused(n);
+    }
+    Opened {
+        answer: Opening::Success,
+        state,
+    }
+}
+
+// A refusal of opening: the number, and the zero state.
+fn refused(n: u16) -> Opened
+    ensures { λ r. ⌜ r ≡ record { answer = answered (some n); state = zeroState } ⌝ }
+{
+    Opened {
+        answer: Opening::Refused(n),
+        state: State {
+            guid: [0; 16],
+            length: 0,
+            attributes: 0,
+            base: 0,
+            entries: 0,
+            map: [0; 64],
+        },
+    }
+}
+
+// The refusals 101 to 105, of the bytes.
+fn bytes_refusal(s: &[u8]) -> Opening
+    ensures { λ r. ⌜ r ≡ answered (firstRefusal (bytesRefusals (now (s .entry)))) ⌝ }
+{
+    if s.len() < 72 {
+        return Opening::Refused(101);
+    }
+    if numbers::u32_at(s, 40) != SIGNATURE {
+        return Opening::Refused(102);
+    }
+    if numbers::byte_at(s, 55) != 1 {
+        return Opening::Refused(103);
+    }
+    let header = numbers::u16_at(s, 48) as usize;
+    if header_length_fault(header, s.len()) {
+        return Opening::Refused(104);
+    }
+    if word_sum(&s[..header]) % 65536 != 0 {
+        return Opening::Refused(105);
+    }
+    Opening::Success
+}
+
+// The refusals 106 to 110, of what the state would be.
+fn fields_refusal(s: &[u8], st: State) -> Opening
+    requires { ⌜ (2 * st .entries ≤ 64) × (8 ≤ headerLengthAt (now s)) ⌝ }
+    ensures { λ r. ⌜ r ≡ answered (firstRefusal (fieldsRefusals (now (s .entry)) st)) ⌝ }
+{
+    let n = st.entries;
+    let map = st.map;
+    let end = 2 * n;
+    let closing = numbers::u16_at(s, 48) as usize - 8;
+    if has_zero(&map[..end]) {
+        return Opening::Refused(106);
+    }
+    if numbers::u64_at(s, closing) != 0 {
+        return Opening::Refused(106);
+    }
+    if size_fault(n, &map[..end], st.length) {
+        return Opening::Refused(107);
+    }
+    if attributes_fault(st.attributes) {
+        return Opening::Refused(108);
+    }
+    if (s.len() as u64) < st.length {
+        return Opening::Refused(109);
+    }
+    if base_fault(st.attributes, st.base) {
+        return Opening::Refused(110);
+    }
+    Opening::Success
+}
+
+// Whether a header length breaks rule 104.
+fn header_length_fault(header: usize, lent: usize) -> bool
+    ensures { λ r. ⌜ r ≡ headerLengthFault header lent ⌝ }
+{
+    if header % 8 != 0 {
+        return true;
+    }
+    if header < 72 {
+        return true;
+    }
+    if 320 < header {
+        return true;
+    }
+    lent < header
+}
+
+// The sum of a header's 16-bit words.
+fn word_sum(s: &[u8]) -> u64
+    requires { ⌜ length (now s) ≤ 320 ⌝ }
+    ensures { λ r. ⌜ r ≡ wordSum (now (s .entry)) ⌝ }
+{
+    let mut sum: u64 = 0;
+    let mut i = 0;
+    while i < s.len() {
+        sum += numbers::u16_at(s, i) as u64;
+        i += 2;
+    }
+    sum
+}
+
+// The state that a header and a base give.
+fn state_at(s: &[u8], base: u64) -> State
+    requires { ⌜ (32 ≤ length (now s)) × (64 ≤ headerLengthAt (now s)) × (headerLengthAt (now s) ≤ 320) ⌝ }
+    ensures { λ r. ⌜ r ≡ stateAt (now (s .entry)) base ⌝ }
+{
+    let entries = (numbers::u16_at(s, 48) as usize - 64) / 8;
+    let guid = guid_at(s);
+    let map = map_at(s, entries);
+    State {
+        guid,
+        length: numbers::u64_at(s, 32),
+        attributes: numbers::u32_at(s, 44),
+        base,
+        entries,
+        map,
+    }
+}
+
+// The file system GUID, bytes 16 to 31.
+fn guid_at(s: &[u8]) -> [u8; 16]
+    requires { ⌜ 32 ≤ length (now s) ⌝ }
+    ensures { λ r. ⌜ r ≡ take 16 (drop 16 (now (s .entry))) ⌝ }
+{
+    let mut guid = [0u8; 16];
+    let mut i = 0;
+    while i < 16 {
+        guid[i] = s[16 + i];
+        i += 1;
+    }
+    guid
+}
+
+// The words of n map entries, from byte 56 on, and zeros beyond them.
+fn map_at(s: &[u8], n: usize) -> [u32; 64]
+    requires { ⌜ n ≤ 32 ⌝ }
+    ensures { λ r. ⌜ r ≡ wordsAt (2 * n) (now (s .entry)) 56 ++ replicate (64 - 2 * n) 0 ⌝ }
+{
+    let mut map = [0u32; 64];
+    let mut i = 0;
+    while i < 2 * n {
+        map[i] = numbers::u32_at(s, 56 + 4 * i);
+        i += 1;
+    }
+    map
+}
