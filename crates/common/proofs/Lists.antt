@@ -4,8 +4,9 @@ use mathlib.Core.Path.{_≡_, refl, sym, ap, _∙_}
 use mathlib.Core.List.{List, [], _∷_, _++_, append-assoc, append-nil}
 use native.Mathlib.Numerals.{add-one, add-two}
 use native.Mathlib.Omega.{arith}
-use lib.ListN.{length, getD, take, drop, set, replicate, drop-of-length-le, take-append-drop, length-replicate, length-drop}
-use lib.Seq.{take-suc-set, drop-cons, drop-set-lt, take-all, append-snoc}
+use lib.ListN.{length, getD, take, drop, set, replicate, drop-of-length-le, take-append-drop, length-replicate, length-drop, length-set, length-append}
+use native.Mathlib.Nat.{add-zero, zero-add}
+use lib.Seq.{sets, set-out, sets-eq, take-append-seam, drop-append-add, drop-append-seam, take-suc-set, drop-cons, drop-set-lt, take-all, append-snoc}
 
 -- two elements of a list from place i on, and the rest
 pub drop-two : (w : List ℕ) (i : ℕ) → i + 1 < length w → drop i w ≡ getD w i 0 ∷ getD w (i + 1) 0 ∷ drop (i + 2) w
@@ -37,3 +38,33 @@ zeros-next n l i v h q =
     let len : length l - i ≡ n - i = sym (length-drop i l) ∙ ap length q ∙ length-replicate (n - i) 0 in
     let e : n - i ≡ suc (n - (i + 1)) = omega arith in
     rw (drop-set-lt (i + 1) l i v (omega arith)) (rest-same (rw (drop-cons l i 0 h, e, ← add-one i) at q))
+
+-- ---- runs of stores: `sets l i vs` is l with vs stored from place i on
+
+-- stores at and past the end of a list leave it
+pub sets-past : (vs l : List ℕ) (at : ℕ) → length l ≤ at → sets l at vs ≡ l
+sets-past [] l at h = refl
+sets-past (v ∷ vs) l at h = rw (set-out l at v) (sets-past vs l (suc at) (omega arith))
+
+-- a run made of two: the second goes on where the first ends
+pub sets-append : (a b l : List ℕ) (i : ℕ) → sets l i (a ++ b) ≡ sets (sets l i a) (i + length a) b
+sets-append [] b l i = rw add-zero
+sets-append (x ∷ a) b l i = let e : suc i + length a ≡ i + suc (length a) = omega arith in sets-append a b (set l i x) (suc i) ∙ ap (λ (k : ℕ). sets (sets (set l i x) (suc i) a) k b) e
+
+-- the stores of a list from its place i on: none are left, or the element there and then the rest
+pub sets-none : (v l : List ℕ) (at i : ℕ) → length v ≤ i → sets l at (drop i v) ≡ l
+sets-none v l at i h = rw (drop-of-length-le v {i = i} h)
+
+pub sets-next : (v l : List ℕ) (at i : ℕ) → i < length v → sets l (at + i) (drop i v) ≡ sets (set l (at + i) (getD v i 0)) (at + (i + 1)) (drop (i + 1) v)
+sets-next v l at i h = let e : at + (i + 1) ≡ suc (at + i) = omega arith in rw (e, drop-cons v i 0 h, add-one)
+
+-- a run that fits replaces what stood there
+pub sets-over : (f x y b : List ℕ) → length x ≡ length y → sets (f ++ (x ++ b)) (length f) y ≡ f ++ (y ++ b)
+sets-over f x y b e =
+    let fits : length f + length y ≤ length (f ++ (x ++ b)) = simp length-append (omega arith) in
+    sets-eq y (f ++ (x ++ b)) (length f) fits
+    ∙ rw (take-append-seam f (x ++ b), drop-append-add f (x ++ b) (length y), ← e, drop-append-seam x b, append-assoc)
+
+-- a run from the start that fits is the front, and the rest stays
+pub sets-front : (v l : List ℕ) → length v ≤ length l → sets l 0 v ≡ v ++ drop (length v) l
+sets-front v l h = sets-eq v l 0 (omega arith) ∙ rw zero-add

@@ -1,10 +1,10 @@
 -- Laws of refusal tables: what a passed table says of its rows, and a table made of two.
 use Prim.Native.Nat.{ℕ}
 use mathlib.Core.Path.{_≡_, refl}
-use mathlib.Core.Bool.{Bool, true, false, cond}
+use mathlib.Core.Bool.{Bool, true, false, cond, true≢false}
 use mathlib.Core.List.{List, [], _∷_, _++_}
 use mathlib.Core.Option.{Option, none, some, Option·some-ne-none, Option·none-ne-some}
-use Rattle.common.specs.Refusals.{Row, row, firstRefusal}
+use Rattle.common.specs.Refusals.{Row, row, firstRefusal, any}
 
 -- a table whose rows all pass: its first row's test is false, and the others pass
 pub row-passed : (r : Row) (rest : List Row) → firstRefusal (r ∷ rest) ≡ none → (r .test ≡ false) × (firstRefusal rest ≡ none)
@@ -30,3 +30,9 @@ then-refused (r ∷ rest) b n e = go (r .test) (then-refused rest b n) e
         → cond t (some (r .number)) (firstRefusal rest) ≡ some n → cond t (some (r .number)) (firstRefusal (rest ++ b)) ≡ some n
     go true ih e = e
     go false ih e = ih e
+
+-- where no test of a list holds, its first does not, and none of the others
+pub any-passed : (t : Bool) (rest : List Bool) → any (t ∷ rest) ≡ false → (t ≡ false) × (any rest ≡ false)
+unfolding any
+any-passed true rest e = absurd (true≢false e)
+any-passed false rest e = (refl, e)

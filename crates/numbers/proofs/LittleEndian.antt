@@ -7,8 +7,8 @@ use native.Mathlib.Nat.{add-zero, sub-self, sub-zero, div-lt-iff-lt-mul, one-le-
 use native.Mathlib.Numerals.{add-one}
 use native.Mathlib.Omega.{arith}
 use lib.Dec.{lit<}
-use lib.ListN.{length, getD, set, length-set, List·getD-eq-default, List·getD-append}
-use lib.Seq.{sets, set-out, getD-append-add}
+use lib.ListN.{length, getD, set, List·getD-eq-default, List·getD-append}
+use lib.Seq.{sets, getD-append-add}
 use Rattle.numbers.specs.LittleEndian.{le, leBytes}
 
 -- past the end every number is 0
@@ -47,11 +47,6 @@ bound-fits n i v b p h k hv hb =
 
 pub bound-none : (n : ℕ) → 0 < 256 ^ n
 bound-none n = one-le-pow n 256 (lit< tt)
-
--- stores at and past the end of a list leave it
-pub sets-past : (vs l : List ℕ) (at : ℕ) → length l ≤ at → sets l at vs ≡ l
-sets-past [] l at h = refl
-sets-past (v ∷ vs) l at h = rw (set-out l at v) (sets-past vs l (suc at) (omega arith))
 
 pub store-whole : (n : ℕ) (l : List ℕ) (at x : ℕ) → sets l at (leBytes n x) ≡ sets l (at + 0) (leBytes (n - 0) x)
 store-whole n l at x = rw (sub-zero, add-zero)

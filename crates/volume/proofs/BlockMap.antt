@@ -3,15 +3,16 @@ use Prim.Native.Nat.{ℕ, suc, _+_, _-_, _*_, _≤_, _<_, _^_}
 use mathlib.Core.Path.{_≡_, refl, sym, ap, _∙_}
 use mathlib.Core.Bool.{Bool, true, false, not, _||_, or-true, or-false}
 use mathlib.Core.List.{List, [], _∷_}
-use native.Mathlib.Nat.{mul-le-mul}
+use native.Mathlib.Nat.{mul-le-mul, pos-of-ne-zero}
 use native.Mathlib.Numerals.{add-one}
 use native.Mathlib.Omega.{arith}
-use borrow.Author.Tests.{lt-ltb, le-ltb, eq-eqb, ne-eqb}
+use borrow.Author.Tests.{lt-ltb, le-ltb, eq-eqb, ne-eqb, ltb-false, eqb-true, eqb-false, not-false}
 use lib.Dec.{eqb, ltb}
 use lib.ListN.{length, getD, drop, drop-of-length-le}
 use lib.Seq.{drop-cons}
 use Rattle.common.specs.Refusals.{any}
 use Rattle.common.proofs.Lists.{drop-two}
+use Rattle.common.proofs.Refusals.{any-passed}
 use Rattle.volume.specs.BlockMap.{blocks, bytes, hasZero, allZero, sizeFault}
 
 -- the entry at place i gives its count of blocks, and its count times its length of bytes
@@ -49,6 +50,33 @@ too-long w len h = rw (ne-eqb (bytes w) len (λ e. omega arith), or-true)
 
 pub totals-end : (w : List ℕ) (len b : ℕ) → blocks w ≤ 65536 → bytes w ≡ b → not (eqb b len) ≡ Totals w len
 totals-end w len b h e = rw (le-ltb 65536 (blocks w) h, e)
+
+-- what a map that passes rule 107 is known to be
+pub record Sized (n : ℕ) (w : List ℕ) (len : ℕ) : Type 0 where
+  pub some-entry : 1 ≤ n
+  pub few-entries : n ≤ 32
+  pub few-blocks : blocks w ≤ 65536
+  pub short : len ≤ 16777216
+  pub total : bytes w ≡ len
+  pub holds-header : 64 + 8 * n ≤ len
+
+pub size-passed : (n : ℕ) (w : List ℕ) (len : ℕ) → sizeFault n w len ≡ false → Sized n w len
+unfolding sizeFault
+size-passed n w len e =
+    let a = any-passed (eqb n 0) _ e in
+    let b = any-passed (ltb 32 n) _ (a .1) in
+    let d = any-passed (ltb 65536 (blocks w)) _ (b .1) in
+    let f = any-passed (ltb 16777216 len) _ (d .1) in
+    let g = any-passed (not (eqb (bytes w) len)) _ (f .1) in
+    let h = any-passed (ltb len (64 + 8 * n)) _ (g .1) in
+    record {
+      some-entry = pos-of-ne-zero (eqb-false n 0 (a .0));
+      few-entries = ltb-false 32 n (b .0);
+      few-blocks = ltb-false 65536 (blocks w) (d .0);
+      short = ltb-false 16777216 len (f .0);
+      total = eqb-true (bytes w) len (not-false _ (g .0));
+      holds-header = ltb-false len (64 + 8 * n) (h .0);
+    }
 
 -- more than 32 entries break rule 107
 pub too-many-entries : (n : ℕ) (w : List ℕ) (len : ℕ) → 32 < n → sizeFault n w len ≡ true

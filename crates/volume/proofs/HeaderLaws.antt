@@ -7,12 +7,12 @@ use mathlib.Core.Option.{Option, none, some}
 use native.Mathlib.Nat.{add-zero, mul-zero, add-assoc}
 use native.Mathlib.Numerals.{add-one, add-two}
 use native.Mathlib.Omega.{arith}
-use borrow.Author.Tests.{lt-ltb, le-ltb, eq-eqb, ne-eqb, ltb-true, ltb-false, eqb-true}
+use borrow.Author.Tests.{lt-ltb, le-ltb, eq-eqb, ne-eqb, ltb-true, ltb-false, eqb-true, not-false}
 use lib.Dec.{eqb, ltb}
 use lib.ListN.{length, getD, take, drop, replicate, drop-of-length-le, length-append, length-replicate, List·getD-append, List·getD-eq-default}
 use lib.Seq.{drop-cons, getD-take, getD-drop}
 use Rattle.common.specs.Refusals.{firstRefusal, any}
-use Rattle.common.proofs.Refusals.{row-passed, then-passed, then-refused}
+use Rattle.common.proofs.Refusals.{any-passed, row-passed, then-passed, then-refused}
 use Rattle.common.proofs.Lists.{drop-two}
 use Rattle.numbers.specs.LittleEndian.{le}
 use Rattle.volume.specs.State.{stateOf, zeroState}
@@ -72,16 +72,13 @@ pub record Readable (s : List ℕ) : Type 0 where
   pub whole : headerLengthAt s % 8 ≡ 0
 
 pub header-length-passed : (h lent : ℕ) → headerLengthFault h lent ≡ false → (72 ≤ h) × (h ≤ 320) × (h ≤ lent) × (h % 8 ≡ 0)
-unfolding headerLengthFault any
-header-length-passed h lent = go (eqb (h % 8) 0) (ltb h 72) (ltb 320 h) (ltb lent h) refl refl refl refl
-  where
-    go : (a b d e : Bool) → eqb (h % 8) 0 ≡ a → ltb h 72 ≡ b → ltb 320 h ≡ d → ltb lent h ≡ e → (not a || (b || (d || (e || false)))) ≡ false
-        → (72 ≤ h) × (h ≤ 320) × (h ≤ lent) × (h % 8 ≡ 0)
-    go true false false false p q r t z = (ltb-false h 72 q, ltb-false 320 h r, ltb-false lent h t, eqb-true (h % 8) 0 p)
-    go true false false true p q r t z = absurd (true≢false z)
-    go true false true e p q r t z = absurd (true≢false z)
-    go true true d e p q r t z = absurd (true≢false z)
-    go false b d e p q r t z = absurd (true≢false z)
+unfolding headerLengthFault
+header-length-passed h lent e =
+    let p = any-passed (not (eqb (h % 8) 0)) _ e in
+    let q = any-passed (ltb h 72) _ (p .1) in
+    let r = any-passed (ltb 320 h) _ (q .1) in
+    let t = any-passed (ltb lent h) _ (r .1) in
+    (ltb-false h 72 (q .0), ltb-false 320 h (r .0), ltb-false lent h (t .0), eqb-true (h % 8) 0 (not-false _ (p .0)))
 
 pub readable : (s : List ℕ) → firstRefusal (bytesRefusals s) ≡ none → Readable s
 unfolding bytesRefusals

@@ -1,2 +1,3 @@
 pub mod BlockMap
 pub mod HeaderLaws
+pub mod HeaderWriterLaws

@@ -1,4 +1,4 @@
--- The volume header (document 01, Header; 000's EFI_FIRMWARE_VOLUME_HEADER): what opening reads from it, and what writing stores.
+-- The volume header (document 01, Header; 000's EFI_FIRMWARE_VOLUME_HEADER): what opening reads from it.
 -- "Lent" bytes are the caller's slice. Reserved bytes (52..54) and the zero vector (0..15) are read by nothing but the word sum.
 use Prim.Native.Nat.{ℕ, zero, suc, _+_, _-_, _*_, _/_, _%_}
 use mathlib.Core.Bool.{Bool, not, _||_}
@@ -15,8 +15,6 @@ use Rattle.volume.specs.declared.state.State.{State}
 use Rattle.volume.specs.declared.header.Opening.{Opening}
 use Rattle.volume.specs.declared.header.Opening.the-variants as Opening
 use Rattle.volume.specs.declared.header.Opened.{Opened}
-use Rattle.volume.specs.declared.header.Written.{Written}
-use Rattle.volume.specs.declared.header.Written.the-variants as Written
 
 -- ---- fields
 
@@ -97,59 +95,3 @@ unfoldable pub openVolume : List ℕ → ℕ → Opened
 openVolume s base =
     let refusal = firstRefusal (bytesRefusals s ++ fieldsRefusals s (stateAt s base)) in
     record { answer = answered refusal; state = stateBeside refusal (stateAt s base) }
-
--- ---- writing
-
--- map words as bytes
-unfoldable pub wordsBytes : List ℕ → List ℕ
-wordsBytes [] = []
-wordsBytes (w ∷ rest) = leBytes 4 w ++ wordsBytes rest
-
--- the header's bytes before its checksum (0..49)
-unfoldable pub headerFront : List ℕ → ℕ → ℕ → List ℕ → List ℕ
-headerFront guid len attributes words =
-    replicate 16 0
-    ++ (guid ++ (leBytes 8 len ++ (leBytes 4 signature ++ (leBytes 4 attributes ++ leBytes 2 (headerLength (length words / 2))))))
-
--- and after it (52 on): the reserved bytes, the revision, the map and its closing pair
-unfoldable pub headerBack : List ℕ → List ℕ
-headerBack words = (0 ∷ 0 ∷ 0 ∷ 1 ∷ []) ++ (wordsBytes words ++ replicate 8 0)
-
--- a header with this checksum
-unfoldable pub headerWith : ℕ → List ℕ → ℕ → ℕ → List ℕ → List ℕ
-headerWith sum guid len attributes words = headerFront guid len attributes words ++ (leBytes 2 sum ++ headerBack words)
-
--- the checksum that brings a sum of words to 0 modulo 65,536
-abbrev pub checksum : ℕ → ℕ
-checksum sum = (65536 - sum % 65536) % 65536
-
--- the header of a volume, its checksum worked out
-unfoldable pub headerBytes : List ℕ → ℕ → ℕ → List ℕ → List ℕ
-headerBytes guid len attributes words = headerWith (checksum (wordSum (headerWith 0 guid len attributes words))) guid len attributes words
-
--- 106 at writing: a zero word or an odd number of map words
-unfoldable pub wordsFault : List ℕ → Bool
-wordsFault words = hasZero words || not (eqb (length words % 2) 0)
-
--- the refusals of writing, in order; `room` is the length of the lent room
-unfoldable pub writeRefusals : ℕ → ℕ → List ℕ → ℕ → List Row
-writeRefusals len attributes words room =
-    row (wordsFault words) 106
-    ∷ row (sizeFault (length words / 2) words len) 107
-    ∷ row (attributesFault attributes) 108
-    ∷ row (ltb room (headerLength (length words / 2))) 5
-    ∷ []
-
--- what writing answers, and the room afterwards
-pub record HeaderWritten : Type 0 where
-  pub answer : Written
-  pub room : List ℕ
-
-unfoldable pub writtenBy : Option ℕ → List ℕ → List ℕ → HeaderWritten
-writtenBy none header room = record { answer = Written.Success (length header); room = header ++ drop (length header) room }
-writtenBy (some n) header room = record { answer = Written.Refused n; room = room }
-
--- writing a header at the start of a room
-unfoldable pub writeHeader : List ℕ → ℕ → ℕ → List ℕ → List ℕ → HeaderWritten
-writeHeader guid len attributes words room =
-    writtenBy (firstRefusal (writeRefusals len attributes words (length room))) (headerBytes guid len attributes words) room

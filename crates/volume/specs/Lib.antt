@@ -1,4 +1,5 @@
 pub mod Attributes
 pub mod BlockMap
 pub mod Header
+pub mod HeaderWriter
 pub mod State

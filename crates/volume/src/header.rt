@@ -1,4 +1,4 @@
-// The volume header: opening a volume, and writing a header.
+// The volume header: opening a volume.
 ghost use mathlib.Core.Path.{_≡_};
 ghost use mathlib.Core.List.{_++_};
 ghost use mathlib.Core.Option.{some};
@@ -26,12 +26,6 @@ pub enum Opening {
 pub struct Opened {
     pub answer: Opening,
     pub state: State,
-}
-
-// What writing a header answers: its length, or the refusal's number in document 01.
-pub enum Written {
-    Success(usize),
-    Refused(u16),
 }
 
 // Opens a volume: answers the state that its header and the base address give, or the first of 101 to
@@ -141,7 +135,7 @@ fn header_length_fault(header: usize, lent: usize) -> bool
 }
 
 // The sum of a header's 16-bit words.
-fn word_sum(s: &[u8]) -> u64
+pub(crate) fn word_sum(s: &[u8]) -> u64
     requires { ⌜ length (now s) ≤ 320 ⌝ }
     ensures { λ r. ⌜ r ≡ wordSum (now (s .entry)) ⌝ }
 {

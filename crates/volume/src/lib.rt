@@ -6,4 +6,5 @@
 pub mod attributes;
 pub mod block_map;
 pub mod header;
+pub mod header_writer;
 pub mod state;

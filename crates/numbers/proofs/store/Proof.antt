@@ -2,7 +2,8 @@ use native.Mathlib.Omega.{arith}
 use denote.Ref.{now}
 use Rattle.numbers.proofs.LittleEndian.{store-whole}
 use lib.ListN.{length-set}
-use Rattle.numbers.proofs.LittleEndian.{sets-past, store-none, store-more}
+use Rattle.common.proofs.Lists.{sets-past}
+use Rattle.numbers.proofs.LittleEndian.{store-none, store-more}
 use Prim.Native.Nat.{ℕ, _+_, _-_, _≤_, _<_}
 use mathlib.Core.Path.{_≡_, sym, _∙_}
 use lib.ListN.{length}

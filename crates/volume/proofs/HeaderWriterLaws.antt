@@ -1,0 +1,118 @@
+-- Laws of header writing: the stores that make a header, the checksum, and the header's length.
+use Prim.Native.Nat.{ℕ, zero, suc, _+_, _-_, _*_, _/_, _%_, _≤_, _<_}
+use mathlib.Core.Path.{_≡_, refl, sym, ap, _∙_}
+use mathlib.Core.List.{List, [], _∷_, _++_, append-assoc}
+use native.Mathlib.Numerals.{add-one}
+use native.Mathlib.Omega.{arith}
+use lib.ListN.{length, getD, drop, replicate, drop-of-length-le, length-append, length-replicate}
+use lib.Seq.{sets, drop-cons}
+use mathlib.Core.Option.{none, some}
+use Rattle.common.specs.Refusals.{firstRefusal}
+use Rattle.common.proofs.Lists.{sets-append, sets-over, sets-front}
+use Rattle.numbers.specs.LittleEndian.{leBytes}
+use Rattle.numbers.proofs.LittleEndian.{length-leBytes}
+use Rattle.volume.specs.BlockMap.{headerLength}
+use Rattle.volume.specs.Header.{signature, wordSum}
+use Rattle.volume.specs.HeaderWriter.{wordsBytes, headerFront, headerWith, headerBytes, reservedAndRevision, checksum, writeRefusals, writtenBy, writeHeader}
+use Rattle.volume.specs.declared.header_writer.Written.the-variants as Written
+
+-- the stores of map words from place i on: the word there and then the rest, or only what follows the map
+pub words-next : (m r z : List ℕ) (i : ℕ) → i < length m
+    → sets r (56 + 4 * i) (wordsBytes (drop i m) ++ z)
+    ≡ sets (sets r (56 + 4 * i) (leBytes 4 (getD m i 0))) (56 + 4 * (i + 1)) (wordsBytes (drop (i + 1) m) ++ z)
+unfolding wordsBytes
+words-next m r z i h =
+    let e : 56 + 4 * (i + 1) ≡ 56 + 4 * i + 4 = omega arith in
+    rw (
+      e,
+      drop-cons m i 0 h,
+      add-one,
+      append-assoc (leBytes 4 (getD m i 0)) (wordsBytes (drop (suc i) m)) z,
+      sets-append (leBytes 4 (getD m i 0)) (wordsBytes (drop (suc i) m) ++ z) r (56 + 4 * i),
+      length-leBytes 4 (getD m i 0),
+    )
+
+pub words-end : (m r z : List ℕ) (at i : ℕ) → length m ≤ i → sets r at (wordsBytes (drop i m) ++ z) ≡ sets r at z
+unfolding wordsBytes
+words-end m r z at i h = rw (drop-of-length-le m {i = i} h)
+
+-- the stores of the fields are the header's first 56 bytes, with 0 for the checksum
+pub fields-stored : (r guid : List ℕ) (len a n : ℕ) → length guid ≡ 16
+    → sets (sets (sets (sets (sets (sets (sets (sets (sets r 0 (leBytes 8 0)) 8 (leBytes 8 0)) 16 guid) 32 (leBytes 8 len)) 40 (leBytes 4 0x4856465F)) 44 (leBytes 4 a)) 48 (leBytes 2 (64 + 8 * n))) 50 (leBytes 2 0)) 52 (leBytes 4 0x01000000)
+    ≡ sets r 0 (headerFront guid len a n ++ (leBytes 2 0 ++ reservedAndRevision))
+unfolding headerFront leBytes
+fields-stored r guid len a n e =
+    let z : List ℕ = sets r 0 (replicate 16 0) in
+    let x : List ℕ = leBytes 8 len ++ (leBytes 4 signature ++ (leBytes 4 a ++ leBytes 2 (headerLength n))) in
+    let y : List ℕ = leBytes 2 0 ++ reservedAndRevision in
+    sym
+    (ap (λ (l : List ℕ). sets z 16 l) (append-assoc guid x y)
+    ∙ sets-append guid (x ++ y) z 16
+    ∙ ap (λ (k : ℕ). sets (sets z 16 guid) (16 + k) (x ++ y)) e)
+
+-- ---- the header's length
+
+pub length-wordsBytes : (m : List ℕ) → length (wordsBytes m) ≡ 4 * length m
+unfolding wordsBytes
+length-wordsBytes [] = refl
+length-wordsBytes (w ∷ m) = rw (length-append (leBytes 4 w) (wordsBytes m), length-leBytes 4 w, length-wordsBytes m) (omega arith)
+
+pub length-front : (guid : List ℕ) (len a n : ℕ) → length guid ≡ 16 → length (headerFront guid len a n) ≡ 50
+unfolding headerFront
+length-front guid len a n e = simp (length-append, length-replicate, length-leBytes, e)
+
+pub length-header : (sum : ℕ) (guid : List ℕ) (len a : ℕ) (words : List ℕ) → length guid ≡ 16 → length words % 2 ≡ 0
+    → length (headerWith sum guid len a words) ≡ 64 + 8 * (length words / 2)
+unfolding headerWith
+length-header sum guid len a words e even =
+    simp (length-append, length-leBytes, length-front guid len a (length words / 2) e, length-wordsBytes) (omega arith)
+
+-- ---- what the stores make
+
+-- fields, then map: the header with 0 for its checksum, and the rest of the room
+pub header-stored : (r guid : List ℕ) (len a : ℕ) (words : List ℕ) → length guid ≡ 16 → length words % 2 ≡ 0 → 64 + 8 * (length words / 2) ≤ length r
+    → sets (sets r 0 (headerFront guid len a (length words / 2) ++ (leBytes 2 0 ++ reservedAndRevision))) 56 (wordsBytes words ++ replicate 8 0)
+    ≡ headerWith 0 guid len a words ++ drop (64 + 8 * (length words / 2)) r
+unfolding headerWith
+header-stored r guid len a words e even fits =
+    let f : List ℕ = headerFront guid len a (length words / 2) in
+    let z : List ℕ = leBytes 2 0 ++ reservedAndRevision in
+    let m : List ℕ = wordsBytes words ++ replicate 8 0 in
+    let six : 0 + length (f ++ z) ≡ 56 = simp (length-append, length-leBytes, length-front guid len a (length words / 2) e) in
+    let whole = length-header 0 guid len a words e even in
+    sym (sets-append (f ++ z) m r 0 ∙ ap (λ (k : ℕ). sets (sets r 0 (f ++ z)) k m) six)
+    ∙ ap (λ (l : List ℕ). sets r 0 l) (append-assoc f z m ∙ ap (λ (l : List ℕ). f ++ l) (append-assoc (leBytes 2 0) reservedAndRevision m))
+    ∙ sets-front (headerWith 0 guid len a words) r (omega arith)
+    ∙ ap (λ (k : ℕ). headerWith 0 guid len a words ++ drop k r) whole
+
+-- then the checksum
+pub checksum-stored : (sum : ℕ) (guid : List ℕ) (len a : ℕ) (words rest : List ℕ) → length guid ≡ 16
+    → sets (headerWith 0 guid len a words ++ rest) 50 (leBytes 2 sum) ≡ headerWith sum guid len a words ++ rest
+unfolding headerWith
+checksum-stored sum guid len a words rest e =
+    let f : List ℕ = headerFront guid len a (length words / 2) in
+    let b : List ℕ = reservedAndRevision ++ (wordsBytes words ++ replicate 8 0) in
+    let same : length (leBytes 2 0) ≡ length (leBytes 2 sum) = length-leBytes 2 0 ∙ sym (length-leBytes 2 sum) in
+    let regroup : (x : List ℕ) → (f ++ (x ++ b)) ++ rest ≡ f ++ (x ++ (b ++ rest)) = λ x. append-assoc f (x ++ b) rest ∙ ap (λ (l : List ℕ). f ++ l) (append-assoc x b rest) in
+    ap (λ (l : List ℕ). sets l 50 (leBytes 2 sum)) (regroup (leBytes 2 0))
+    ∙ ap (λ (k : ℕ). sets (f ++ (leBytes 2 0 ++ (b ++ rest))) k (leBytes 2 sum)) (sym (length-front guid len a (length words / 2) e))
+    ∙ sets-over f (leBytes 2 0) (leBytes 2 sum) (b ++ rest) same
+    ∙ sym (regroup (leBytes 2 sum))
+
+-- ---- the answers
+
+-- a refusal leaves the room
+pub write-refused : (n : ℕ) (guid : List ℕ) (len a : ℕ) (words room : List ℕ) → firstRefusal (writeRefusals len a words (length room)) ≡ some n
+    → (Written.Refused n ≡ writeHeader guid len a words room .answer) × (room ≡ writeHeader guid len a words room .room)
+unfolding writeHeader writtenBy
+write-refused n guid len a words room e = rw e (refl, refl)
+
+-- success stores the header
+pub write-done : (guid : List ℕ) (len a : ℕ) (words room : List ℕ) → length guid ≡ 16 → length words % 2 ≡ 0
+    → firstRefusal (writeRefusals len a words (length room)) ≡ none
+    → (Written.Success (64 + 8 * (length words / 2)) ≡ writeHeader guid len a words room .answer)
+    × (headerBytes guid len a words ++ drop (64 + 8 * (length words / 2)) room ≡ writeHeader guid len a words room .room)
+unfolding writeHeader writtenBy headerBytes
+write-done guid len a words room g even e =
+    let l = length-header (checksum (wordSum (headerWith 0 guid len a words))) guid len a words g even in
+    rw (e, l) (refl, refl)

@@ -1,0 +1,74 @@
+-- Writing a volume header (document 01: "writing a header takes GUID, length, attributes and the map words without the closing pair. It
+-- stores exactly the header, its checksum worked out, at the start of the room and answers its length").
+use Prim.Native.Nat.{ℕ, _+_, _-_, _*_, _/_, _%_}
+use mathlib.Core.Bool.{Bool, not, _||_}
+use mathlib.Core.List.{List, [], _∷_, _++_}
+use mathlib.Core.Option.{Option, none, some}
+use lib.Dec.{eqb, ltb}
+use lib.ListN.{length, drop, replicate}
+use Rattle.common.specs.Refusals.{Row, row, firstRefusal}
+use Rattle.numbers.specs.LittleEndian.{leBytes}
+use Rattle.volume.specs.Attributes.{attributesFault}
+use Rattle.volume.specs.BlockMap.{headerLength, hasZero, sizeFault}
+use Rattle.volume.specs.Header.{signature, wordSum}
+use Rattle.volume.specs.declared.header_writer.Written.{Written}
+use Rattle.volume.specs.declared.header_writer.Written.the-variants as Written
+
+-- the number of entries of a list of map words
+abbrev pub pairs : List ℕ → ℕ
+pairs words = length words / 2
+
+-- map words as bytes
+unfoldable pub wordsBytes : List ℕ → List ℕ
+wordsBytes [] = []
+wordsBytes (w ∷ rest) = leBytes 4 w ++ wordsBytes rest
+
+-- the header's bytes before its checksum (0..49), of n entries: zero vector, GUID, volume length, signature, attributes, header length
+unfoldable pub headerFront : List ℕ → ℕ → ℕ → ℕ → List ℕ
+headerFront guid len attributes n =
+    replicate 16 0 ++ (guid ++ (leBytes 8 len ++ (leBytes 4 signature ++ (leBytes 4 attributes ++ leBytes 2 (headerLength n)))))
+
+-- bytes 52..55: reserved, as zeros, and the revision
+abbrev pub reservedAndRevision : List ℕ
+reservedAndRevision = 0 ∷ 0 ∷ 0 ∷ 1 ∷ []
+
+-- a header with this checksum; the map is ended by a pair of zeros
+unfoldable pub headerWith : ℕ → List ℕ → ℕ → ℕ → List ℕ → List ℕ
+headerWith sum guid len attributes words =
+    headerFront guid len attributes (pairs words) ++ (leBytes 2 sum ++ (reservedAndRevision ++ (wordsBytes words ++ replicate 8 0)))
+
+-- the checksum that brings a sum of 16-bit words to 0 modulo 65,536
+abbrev pub checksum : ℕ → ℕ
+checksum sum = (65536 - sum % 65536) % 65536
+
+-- the header, its checksum worked out over the header that has 0 in its place
+unfoldable pub headerBytes : List ℕ → ℕ → ℕ → List ℕ → List ℕ
+headerBytes guid len attributes words = headerWith (checksum (wordSum (headerWith 0 guid len attributes words))) guid len attributes words
+
+-- 106 at writing: a zero word or an odd number of map words
+unfoldable pub wordsFault : List ℕ → Bool
+wordsFault words = hasZero words || not (eqb (length words % 2) 0)
+
+-- the refusals of writing, in order; `room` is the length of the lent room
+unfoldable pub writeRefusals : ℕ → ℕ → List ℕ → ℕ → List Row
+writeRefusals len attributes words room =
+    row (wordsFault words) 106
+    ∷ row (sizeFault (pairs words) words len) 107
+    ∷ row (attributesFault attributes) 108
+    ∷ row (ltb room (headerLength (pairs words))) 5
+    ∷ []
+
+-- what writing answers, and the room afterwards
+pub record HeaderWritten : Type 0 where
+  pub answer : Written
+  pub room : List ℕ
+
+-- the header at the start of the room, or the number alone and the room as it was
+unfoldable pub writtenBy : Option ℕ → List ℕ → List ℕ → HeaderWritten
+writtenBy none header room = record { answer = Written.Success (length header); room = header ++ drop (length header) room }
+writtenBy (some n) header room = record { answer = Written.Refused n; room = room }
+
+-- writing a header at the start of a room
+unfoldable pub writeHeader : List ℕ → ℕ → ℕ → List ℕ → List ℕ → HeaderWritten
+writeHeader guid len attributes words room =
+    writtenBy (firstRefusal (writeRefusals len attributes words (length room))) (headerBytes guid len attributes words) room

@@ -1,0 +1,103 @@
+// Writing a volume header.
+ghost use mathlib.Core.Path.{_≡_};
+ghost use mathlib.Core.List.{_++_};
+ghost use lib.ListN.{length, replicate};
+ghost use lib.Seq.{sets};
+ghost use Rattle.numbers.specs.LittleEndian.{leBytes};
+ghost use Prim.Native.Nat.{_≤_};
+ghost use Rattle.volume.specs.HeaderWriter.{headerFront, reservedAndRevision, wordsBytes, writeHeader};
+use crate::attributes::attributes_fault;
+use crate::block_map::has_zero;
+use crate::block_map::size_fault;
+use crate::block_map::wide;
+use crate::header::SIGNATURE;
+use crate::header::word_sum;
+
+// What writing a header answers: its length, or the refusal's number in document 01 (106, 107, 108, 5).
+pub enum Written {
+    Success(usize),
+    Refused(u16),
+}
+
+// Writes the header of a volume at the start of a room, from its file system GUID, length, attributes and
+// block map, the map's words without the closing pair. The rest of the room stays, and on a
+// refusal all of it.
+pub fn write_header(
+    guid: [u8; 16],
+    len: u64,
+    attributes: u32,
+    map: &[u32],
+    room: &mut [u8],
+) -> Written
+    ensures { λ r. ⌜ r ≡ writeHeader guid len attributes (now (map .entry)) (now (room .entry)) .answer ⌝ }
+    ensures { λ _. ⌜ now (room .exit) ≡ writeHeader guid len attributes (now (map .entry)) (now (room .entry)) .room ⌝ }
+{
+    if has_zero(map) {
+        return Written::Refused(106);
+    }
+    if map.len() % 2 != 0 {
+        return Written::Refused(106);
+    }
+    let n = map.len() / 2;
+    if size_fault(n, map, len) {
+        return Written::Refused(107);
+    }
+    if attributes_fault(attributes) {
+        return Written::Refused(108);
+    }
+    let header = 64 + 8 * n;
+    if room.len() < header {
+        return Written::Refused(5);
+    }
+    store_fields(guid, len, attributes, n, room);
+    store_map(map, room);
+    let sum = word_sum(&room[..header]) % 65536;
+    numbers::store(room, 50, 2, (65536 - sum) % 65536);
+    Written::Success(header)
+}
+
+// Stores a header's first 56 bytes, with 0 for the checksum.
+fn store_fields(guid: [u8; 16], len: u64, attributes: u32, n: usize, room: &mut [u8])
+    requires { ⌜ n ≤ 32 ⌝ }
+    ensures { λ _. ⌜ now (room .exit) ≡ sets (now (room .entry)) 0 (headerFront guid len attributes n ++ (leBytes 2 0 ++ reservedAndRevision)) ⌝ }
+{
+    numbers::store(room, 0, 8, 0);
+    numbers::store(room, 8, 8, 0);
+    store_bytes(room, 16, &guid);
+    numbers::store(room, 32, 8, len);
+    numbers::store(room, 40, 4, SIGNATURE as u64);
+    numbers::store(room, 44, 4, attributes as u64);
+    numbers::store(room, 48, 2, 64 + 8 * n as u64);
+    numbers::store(room, 50, 2, 0);
+    numbers::store(room, 52, 4, 0x0100_0000);
+}
+
+// Stores map words and the closing pair, from byte 56 on.
+fn store_map(map: &[u32], room: &mut [u8])
+    requires { ⌜ length (now map) ≤ 64 ⌝ }
+    ensures { λ _. ⌜ now (room .exit) ≡ sets (now (room .entry)) 56 (wordsBytes (now (map .entry)) ++ replicate 8 0) ⌝ }
+{
+    let mut i = 0;
+    while i < map.len() {
+        numbers::store(room, 56 + 4 * i, 4, wide(map[i]));
+        i += 1;
+    }
+    numbers::store(room, 56 + 4 * i, 8, 0);
+}
+
+// Stores bytes from a place on; what would lie past the end is not stored.
+fn store_bytes(room: &mut [u8], at: usize, src: &[u8])
+    ensures { λ _. ⌜ now (room .exit) ≡ sets (now (room .entry)) at (now (src .entry)) ⌝ }
+{
+    if room.len() <= at {
+        return;
+    }
+    let mut i = 0;
+    while i < src.len() {
+        if room.len() - at <= i {
+            return;
+        }
+        room[at + i] = src[i];
+        i += 1;
+    }
+}
