@@ -5,8 +5,8 @@ use mathlib.Core.List.{List, [], _∷_, _++_, append-assoc, append-nil}
 use native.Mathlib.Numerals.{add-one, add-two}
 use native.Mathlib.Omega.{arith}
 use lib.ListN.{length, getD, take, drop, set, replicate, drop-of-length-le, take-append-drop, length-replicate, length-drop, length-set, length-append}
-use native.Mathlib.Nat.{add-zero, zero-add}
-use lib.Seq.{sets, set-out, sets-eq, take-append-seam, drop-append-add, drop-append-seam, take-suc-set, drop-cons, drop-set-lt, take-all, append-snoc}
+use native.Mathlib.Nat.{add-zero, zero-add, ne-of-gt}
+use lib.Seq.{sets, set-out, set-comm, sets-eq, take-append-seam, drop-append-add, drop-append-seam, take-suc-set, drop-cons, drop-set-lt, take-all, append-snoc}
 
 -- two elements of a list from place i on, and the rest
 pub drop-two : (w : List ℕ) (i : ℕ) → i + 1 < length w → drop i w ≡ getD w i 0 ∷ getD w (i + 1) 0 ∷ drop (i + 2) w
@@ -68,3 +68,8 @@ sets-over f x y b e =
 -- a run from the start that fits is the front, and the rest stays
 pub sets-front : (v l : List ℕ) → length v ≤ length l → sets l 0 v ≡ v ++ drop (length v) l
 sets-front v l h = sets-eq v l 0 (omega arith) ∙ rw zero-add
+
+-- a store before a run can be made before it
+pub set-sets : (v l : List ℕ) (i j a : ℕ) → j < i → set (sets l i v) j a ≡ sets (set l j a) i v
+set-sets [] l i j a h = refl
+set-sets (x ∷ v) l i j a h = set-sets v (set l i x) (suc i) j a (omega arith) ∙ ap (λ (m : List ℕ). sets m (suc i) v) (set-comm l i j x a (ne-of-gt h))

@@ -62,6 +62,23 @@ pub fn store(s: &mut [u8], at: usize, width: usize, x: u64)
     }
 }
 
+// Stores bytes from a place on. Every other byte stays.
+pub fn store_bytes(s: &mut [u8], at: usize, src: &[u8])
+    ensures { λ _. ⌜ now (s .exit) ≡ sets (now (s .entry)) at (now (src .entry)) ⌝ }
+{
+    if s.len() <= at {
+        return;
+    }
+    let mut i = 0;
+    while i < src.len() {
+        if s.len() - at <= i {
+            return;
+        }
+        s[at + i] = src[i];
+        i += 1;
+    }
+}
+
 // The number in the `width` bytes from a place on, from the highest byte down.
 fn number_at(s: &[u8], at: usize, width: usize) -> u64
     requires { ⌜ width ≤ 8 ⌝ }

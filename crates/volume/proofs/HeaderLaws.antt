@@ -17,6 +17,7 @@ use Rattle.common.proofs.Lists.{drop-two}
 use Rattle.numbers.specs.LittleEndian.{le}
 use Rattle.volume.specs.State.{stateOf, zeroState}
 use Rattle.volume.specs.Header.{headerLengthAt, wordsAt, wordSum, stateAt, headerLengthFault, bytesRefusals, fieldsRefusals, answered, stateBeside, openVolume}
+use Rattle.volume.specs.declared.state.State.{State}
 use Rattle.volume.specs.declared.header.Opening.the-variants as Opening
 use Rattle.volume.specs.declared.header.Opened.{Opened}
 
@@ -117,3 +118,19 @@ open-success s base p e =
       then-passed (bytesRefusals s) (fieldsRefusals s (stateAt s base)) (answered-success (firstRefusal (bytesRefusals s)) p),
       answered-success (firstRefusal (fieldsRefusals s (stateAt s base))) e,
     )
+
+-- the state that opening answers, also the zero state beside a refusal, has at most 32 entries
+pub opened-entries : (s : List ℕ) (base : ℕ) → openVolume s base .state .entries ≤ 32
+unfolding openVolume stateBeside zeroState
+opened-entries s base = go (firstRefusal (bytesRefusals s)) refl
+  where
+    st : State
+    st = stateAt s base
+
+    kept : (o : Option ℕ) → Readable s → stateBeside o st .entries ≤ 32
+    kept none r = let b = entries-bound s base r in omega arith
+    kept (some n) r = omega arith
+
+    go : (o : Option ℕ) → firstRefusal (bytesRefusals s) ≡ o → stateBeside (firstRefusal (bytesRefusals s ++ fieldsRefusals s st)) st .entries ≤ 32
+    go none p = rw (then-passed (bytesRefusals s) (fieldsRefusals s st) p) (kept (firstRefusal (fieldsRefusals s st)) (readable s p))
+    go (some n) p = rw (then-refused (bytesRefusals s) (fieldsRefusals s st) n p) (omega arith)

@@ -63,7 +63,7 @@ fn store_fields(guid: [u8; 16], len: u64, attributes: u32, n: usize, room: &mut 
 {
     numbers::store(room, 0, 8, 0);
     numbers::store(room, 8, 8, 0);
-    store_bytes(room, 16, &guid);
+    numbers::store_bytes(room, 16, &guid);
     numbers::store(room, 32, 8, len);
     numbers::store(room, 40, 4, SIGNATURE as u64);
     numbers::store(room, 44, 4, attributes as u64);
@@ -83,21 +83,4 @@ fn store_map(map: &[u32], room: &mut [u8])
         i += 1;
     }
     numbers::store(room, 56 + 4 * i, 8, 0);
-}
-
-// Stores bytes from a place on; what would lie past the end is not stored.
-fn store_bytes(room: &mut [u8], at: usize, src: &[u8])
-    ensures { λ _. ⌜ now (room .exit) ≡ sets (now (room .entry)) at (now (src .entry)) ⌝ }
-{
-    if room.len() <= at {
-        return;
-    }
-    let mut i = 0;
-    while i < src.len() {
-        if room.len() - at <= i {
-            return;
-        }
-        room[at + i] = src[i];
-        i += 1;
-    }
 }

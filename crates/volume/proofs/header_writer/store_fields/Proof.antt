@@ -8,7 +8,7 @@ use Rattle.volume.proofs.header_writer.store_fields.Tie as tie
 use Rattle.volume.proofs.header_writer.store_fields.Reads as reads
 use Rattle.volume.proofs.header_writer.store_fields.Lts as lts
 use Rattle.numbers.proofs.store.Reads as store-reads
-use Rattle.volume.proofs.header_writer.store_bytes.Reads as store-bytes-reads
+use Rattle.numbers.proofs.store_bytes.Reads as store-bytes-reads
 
 -- the GUID is an array of 16 bytes
 guid-length : (c : tie.Start) → length (c .args .t1) ≡ 16

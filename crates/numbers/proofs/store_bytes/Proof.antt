@@ -9,20 +9,20 @@ use lib.ListN.{length, getD, take, drop, replicate}
 use lib.Seq.{sets}
 use Rattle.common.proofs.Lists.{sets-past, sets-none, sets-next}
 use borrow.Author.Needs.{needs}
-use Rattle.volume.proofs.header_writer.store_bytes.Statement.{statement}
-use Rattle.volume.proofs.header_writer.store_bytes.Tie as tie
-use Rattle.volume.proofs.header_writer.store_bytes.Reads as reads
-use Rattle.volume.proofs.header_writer.store_bytes.Lts as lts
+use Rattle.numbers.proofs.store_bytes.Statement.{statement}
+use Rattle.numbers.proofs.store_bytes.Tie as tie
+use Rattle.numbers.proofs.store_bytes.Reads as reads
+use Rattle.numbers.proofs.store_bytes.Lts as lts
 
 abbrev Inv-loop : tie.InvT-loop
-Inv-loop room₀ at src i₀ room i = (i ≤ length src) × (length room ≡ length room₀) × (at < length room₀) × (sets room₀ at src ≡ sets room (at + i) (drop i src))
+Inv-loop s₀ at src i₀ s i = (i ≤ length src) × (length s ≡ length s₀) × (at < length s₀) × (sets s₀ at src ≡ sets s (at + i) (drop i src))
 
 abbrev μ-loop : tie.MeasureT-loop
-μ-loop room₀ at src i₀ room i = length src - i
+μ-loop s₀ at src i₀ s i = length src - i
 
 -- src/header_writer.rt:86:9
 returns : tie.Need-returns Inv-loop μ-loop
-returns c = sym (sets-past (now (c .before .args .src)) (now (c .before .args .room)) (c .before .args .at) (c .if1 .taken))
+returns c = sym (sets-past (now (c .before .args .src)) (now (c .before .args .s)) (c .before .args .at) (c .if1 .taken))
 
 -- src/header_writer.rt:89:5
 loop-holds : tie.Need-loop-holds Inv-loop μ-loop
@@ -41,19 +41,19 @@ returns-2 : tie.Need-returns-2 Inv-loop μ-loop
 returns-2 c =
     let l = c .before .before .loop in
     let a = c .before .before .before .before .args in
-    sym (l .inv .3 ∙ sets-past (drop (l .i) (now (a .src))) (l .room) (a .at + l .i) (omega arith))
+    sym (l .inv .3 ∙ sets-past (drop (l .i) (now (a .src))) (l .s) (a .at + l .i) (omega arith))
 
 -- src/header_writer.rt:93:24
-shared-slice-read-room : tie.Need-shared-slice-read-room Inv-loop μ-loop
-shared-slice-read-room c = search needs
+shared-slice-read-s : tie.Need-shared-slice-read-s Inv-loop μ-loop
+shared-slice-read-s c = search needs
 
 -- src/header_writer.rt:93:14
-add-room : tie.Need-add-room Inv-loop μ-loop
-add-room c = search needs
+add-s : tie.Need-add-s Inv-loop μ-loop
+add-s c = search needs
 
 -- src/header_writer.rt:93:9
-slice-write-room : tie.Need-slice-write-room Inv-loop μ-loop
-slice-write-room c = search needs
+slice-write-s : tie.Need-slice-write-s Inv-loop μ-loop
+slice-write-s c = search needs
 
 -- src/header_writer.rt:94:9
 add-i : tie.Need-add-i Inv-loop μ-loop
@@ -68,7 +68,7 @@ loop-again : tie.Need-loop-again Inv-loop μ-loop
 loop-again c =
     let l = c .before .before .before .loop in
     let a = c .before .before .before .before .before .args in
-    (search needs, simp length-set (l .inv .1), l .inv .2, l .inv .3 ∙ sets-next (now (a .src)) (l .room) (a .at) (l .i) (omega arith))
+    (search needs, simp length-set (l .inv .1), l .inv .2, l .inv .3 ∙ sets-next (now (a .src)) (l .s) (a .at) (l .i) (omega arith))
 
 -- src/header_writer.rt:82:1
 same-length-2 : tie.Need-same-length-2 Inv-loop μ-loop
@@ -79,7 +79,7 @@ returns-3 : tie.Need-returns-3 Inv-loop μ-loop
 returns-3 c =
     let l = c .before .loop in
     let a = c .before .before .before .args in
-    sym (l .inv .3 ∙ sets-none (now (a .src)) (l .room) (a .at + l .i) (l .i) (omega arith))
+    sym (l .inv .3 ∙ sets-none (now (a .src)) (l .s) (a .at + l .i) (l .i) (omega arith))
 
 pub store-bytes-spec : {M : Type 1} → statement M
 store-bytes-spec =
@@ -92,9 +92,9 @@ store-bytes-spec =
     sub-if2
     same-length
     returns-2
-    shared-slice-read-room
-    add-room
-    slice-write-room
+    shared-slice-read-s
+    add-s
+    slice-write-s
     add-i
     loop-less
     loop-again

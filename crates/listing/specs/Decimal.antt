@@ -1,0 +1,22 @@
+-- Numbers as decimal text, in ASCII.
+use Prim.Native.Nat.{ℕ, zero, suc, _+_, _/_, _%_}
+use mathlib.Core.Bool.{cond}
+use mathlib.Core.List.{List, [], _∷_, _++_}
+use lib.Dec.{ltb}
+
+-- how many digits n has, where `fuel` is at least n; `places-step` of proofs/ is the law without fuel
+unfoldable pub placesFrom : ℕ → ℕ → ℕ
+placesFrom zero n = 1
+placesFrom (suc fuel) n = let more = placesFrom fuel (n / 10) in cond (ltb n 10) 1 (suc more)
+
+unfoldable pub places : ℕ → ℕ
+places n = placesFrom n n
+
+-- the last k digits of n, the highest first
+unfoldable pub digits : ℕ → ℕ → List ℕ
+digits zero n = []
+digits (suc k) n = digits k (n / 10) ++ ((48 + n % 10) ∷ [])
+
+-- n in decimal; `decimal-one` and `decimal-more` of proofs/ are the laws that a reader expects
+unfoldable pub decimal : ℕ → List ℕ
+decimal n = digits (places n) n
