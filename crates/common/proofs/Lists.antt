@@ -1,11 +1,11 @@
 -- Laws of lists that the loops of several crates share.
-use Prim.Native.Nat.{ℕ, zero, suc, _+_, _-_, _≤_, _<_}
+use Prim.Native.Nat.{ℕ, suc, _+_, _-_, _≤_, _<_}
 use mathlib.Core.Path.{_≡_, refl, sym, ap, _∙_}
 use mathlib.Core.List.{List, [], _∷_, _++_, append-assoc, append-nil}
 use native.Mathlib.Numerals.{add-one, add-two}
 use native.Mathlib.Omega.{arith}
-use lib.ListN.{length, getD, take, drop, set, replicate, drop-of-length-le, take-append-drop, length-replicate, length-drop, length-set, length-append}
 use native.Mathlib.Nat.{add-zero, zero-add, ne-of-gt}
+use lib.ListN.{length, getD, take, drop, set, replicate, drop-of-length-le, take-append-drop, length-replicate, length-drop, length-append}
 use lib.Seq.{sets, set-out, set-comm, sets-eq, take-append-seam, drop-append-add, drop-append-seam, take-suc-set, drop-cons, drop-set-lt, take-all, append-snoc}
 
 -- two elements of a list from place i on, and the rest

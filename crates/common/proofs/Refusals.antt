@@ -3,8 +3,8 @@ use Prim.Native.Nat.{ℕ}
 use mathlib.Core.Path.{_≡_, refl}
 use mathlib.Core.Bool.{Bool, true, false, cond, true≢false}
 use mathlib.Core.List.{List, [], _∷_, _++_}
-use mathlib.Core.Option.{Option, none, some, Option·some-ne-none, Option·none-ne-some}
-use Rattle.common.specs.Refusals.{Row, row, firstRefusal, any}
+use mathlib.Core.Option.{none, some, Option·some-ne-none, Option·none-ne-some}
+use Rattle.common.specs.Refusals.{Row, firstRefusal, any}
 
 -- a table whose rows all pass: its first row's test is false, and the others pass
 pub row-passed : (r : Row) (rest : List Row) → firstRefusal (r ∷ rest) ≡ none → (r .test ≡ false) × (firstRefusal rest ≡ none)

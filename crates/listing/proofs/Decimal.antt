@@ -1,5 +1,5 @@
 -- Laws of decimal text: without the counter of `placesFrom`, and for the loops that count and store digits.
-use Prim.Native.Nat.{ℕ, zero, suc, _+_, _-_, _*_, _/_, _%_, _^_, _≤_, _<_, suc-le-suc}
+use Prim.Native.Nat.{ℕ, zero, suc, _+_, _-_, _/_, _%_, _^_, _≤_, _<_, suc-le-suc}
 use mathlib.Core.Path.{_≡_, refl, sym, ap, _∙_}
 use mathlib.Core.Bool.{Bool, true, false, cond}
 use mathlib.Core.List.{List, [], _∷_, _++_, append-assoc, append-nil}
@@ -9,7 +9,7 @@ use borrow.Author.Tests.{ltb-true, ltb-false, lt-ltb, le-ltb}
 use lib.Dec.{ltb}
 use lib.ListN.{length, set, length-append}
 use lib.Seq.{sets}
-use Rattle.common.proofs.Lists.{set-sets, sets-append}
+use Rattle.common.proofs.Lists.{set-sets}
 use Rattle.numbers.specs.LittleEndian.{leBytes}
 use Rattle.listing.specs.Decimal.{placesFrom, places, digits, decimal}
 

@@ -1,13 +1,12 @@
 -- Laws of little-endian numbers, each over the width: what reading gives past the end and from one byte more, its bound, what is
 -- read in an appended list, and that reading gives back what was stored.
 use Prim.Native.Nat.{ℕ, zero, suc, _+_, _-_, _*_, _/_, _%_, _^_, _≤_, _<_}
-use mathlib.Core.Path.{_≡_, refl, sym, ap, ap₂, _∙_}
+use mathlib.Core.Path.{_≡_, refl, ap, ap₂, _∙_}
 use mathlib.Core.List.{List, [], _∷_, _++_}
 use native.Mathlib.Nat.{add-zero, sub-self, sub-zero, div-lt-iff-lt-mul, one-le-pow, pow-suc, pow-le-pow-right}
-use native.Mathlib.Numerals.{add-one}
 use native.Mathlib.Omega.{arith}
 use lib.Dec.{lit<}
-use lib.ListN.{length, getD, set, List·getD-eq-default, List·getD-append}
+use lib.ListN.{length, getD, set, List·getD-eq-default}
 use lib.Seq.{sets, getD-append-add}
 use Rattle.numbers.specs.LittleEndian.{le, leBytes}
 

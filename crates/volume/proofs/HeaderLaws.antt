@@ -1,17 +1,16 @@
 -- Laws of the header: its fields one at a time, for the loops that read them, and what its refusal tables say.
-use Prim.Native.Nat.{ℕ, zero, suc, _+_, _-_, _*_, _/_, _%_, _≤_, _<_}
-use mathlib.Core.Path.{_≡_, refl, sym, ap, _∙_}
-use mathlib.Core.Bool.{Bool, true, false, not, _||_, or-true, true≢false}
-use mathlib.Core.List.{List, [], _∷_, _++_}
+use Prim.Native.Nat.{ℕ, zero, suc, _+_, _*_, _%_, _≤_, _<_}
+use mathlib.Core.Path.{_≡_, refl, ap, _∙_}
+use mathlib.Core.Bool.{Bool, true, false, not}
+use mathlib.Core.List.{List, [], _++_}
 use mathlib.Core.Option.{Option, none, some}
-use native.Mathlib.Nat.{add-zero, mul-zero, add-assoc}
-use native.Mathlib.Numerals.{add-one, add-two}
+use native.Mathlib.Nat.{add-zero, mul-zero}
 use native.Mathlib.Omega.{arith}
-use borrow.Author.Tests.{lt-ltb, le-ltb, eq-eqb, ne-eqb, ltb-true, ltb-false, eqb-true, not-false}
+use borrow.Author.Tests.{ltb-true, ltb-false, eqb-true, not-false}
 use lib.Dec.{eqb, ltb}
-use lib.ListN.{length, getD, take, drop, replicate, drop-of-length-le, length-append, length-replicate, List·getD-append, List·getD-eq-default}
-use lib.Seq.{drop-cons, getD-take, getD-drop}
-use Rattle.common.specs.Refusals.{firstRefusal, any}
+use lib.ListN.{length, getD, drop, drop-of-length-le, List·getD-eq-default}
+use lib.Seq.{drop-cons}
+use Rattle.common.specs.Refusals.{firstRefusal}
 use Rattle.common.proofs.Refusals.{any-passed, row-passed, then-passed, then-refused}
 use Rattle.common.proofs.Lists.{drop-two}
 use Rattle.numbers.specs.LittleEndian.{le}
@@ -19,7 +18,6 @@ use Rattle.volume.specs.State.{stateOf, zeroState}
 use Rattle.volume.specs.Header.{headerLengthAt, wordsAt, wordSum, stateAt, headerLengthFault, bytesRefusals, fieldsRefusals, answered, stateBeside, openVolume}
 use Rattle.volume.specs.declared.state.State.{State}
 use Rattle.volume.specs.declared.header.Opening.the-variants as Opening
-use Rattle.volume.specs.declared.header.Opened.{Opened}
 
 -- k words, and the word at place i of them
 pub length-wordsAt : (k : ℕ) (s : List ℕ) (at : ℕ) → length (wordsAt k s at) ≡ k

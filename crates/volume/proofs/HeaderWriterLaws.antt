@@ -1,12 +1,12 @@
 -- Laws of header writing: the stores that make a header, the checksum, and the header's length.
-use Prim.Native.Nat.{ℕ, zero, suc, _+_, _-_, _*_, _/_, _%_, _≤_, _<_}
+use Prim.Native.Nat.{ℕ, suc, _+_, _*_, _/_, _%_, _≤_, _<_}
 use mathlib.Core.Path.{_≡_, refl, sym, ap, _∙_}
 use mathlib.Core.List.{List, [], _∷_, _++_, append-assoc}
+use mathlib.Core.Option.{none, some}
 use native.Mathlib.Numerals.{add-one}
 use native.Mathlib.Omega.{arith}
 use lib.ListN.{length, getD, drop, replicate, drop-of-length-le, length-append, length-replicate}
 use lib.Seq.{sets, drop-cons}
-use mathlib.Core.Option.{none, some}
 use Rattle.common.specs.Refusals.{firstRefusal}
 use Rattle.common.proofs.Lists.{sets-append, sets-over, sets-front}
 use Rattle.numbers.specs.LittleEndian.{leBytes}

@@ -1,16 +1,16 @@
 -- What opening depends on, and when it succeeds.
-use Prim.Native.Nat.{ℕ, zero, suc, _+_, _-_, _*_, _/_, _%_, _≤_, _<_, min}
+use Prim.Native.Nat.{ℕ, zero, suc, _+_, _-_, _*_, _/_, _%_, _≤_, _<_}
 use mathlib.Core.Path.{_≡_, refl, sym, ap, ap₂, _∙_}
-use mathlib.Core.Bool.{Bool, true, false, not, _||_}
-use mathlib.Core.List.{List, [], _∷_, _++_}
+use mathlib.Core.Bool.{false}
+use mathlib.Core.List.{List, _∷_}
 use mathlib.Core.Option.{Option, none, some}
 use native.Mathlib.Omega.{arith}
-use borrow.Author.Tests.{lt-ltb, le-ltb, eq-eqb}
-use lib.Dec.{eqb, ltb}
+use borrow.Author.Tests.{le-ltb, eq-eqb}
+use lib.Dec.{eqb}
 use lib.ListN.{length, getD, take, drop, length-take, length-drop}
 use lib.Seq.{ext-getD, getD-take, getD-drop, take-at}
-use Rattle.common.specs.Refusals.{firstRefusal, any, row}
-use Rattle.common.proofs.Refusals.{then-passed, then-refused}
+use Rattle.common.specs.Refusals.{firstRefusal, any}
+use Rattle.common.proofs.Refusals.{then-refused}
 use Rattle.numbers.specs.LittleEndian.{le}
 use Rattle.numbers.proofs.LittleEndian.{le-same}
 use Rattle.volume.specs.Attributes.{attributesFault, baseFault}
@@ -18,10 +18,10 @@ use Rattle.volume.specs.BlockMap.{hasZero, sizeFault}
 use Rattle.volume.specs.State.{stateOf, mapOf}
 use Rattle.volume.specs.Header.{signature, headerLengthAt, wordsAt, wordSum, stateAt, headerLengthFault, mapFault, bytesRefusals, fieldsRefusals, answered, stateBeside, openVolume}
 use Rattle.volume.specs.declared.state.State.{State}
-use Rattle.volume.proofs.HeaderLaws.{length-wordsAt, readable, open-success}
-use Rattle.volume.proofs.BlockMap.{Sized, size-passed}
 use Rattle.volume.specs.declared.header.Opening.the-variants as Opening
 use Rattle.volume.specs.declared.header.Opened.{Opened}
+use Rattle.volume.proofs.HeaderLaws.{length-wordsAt, readable, open-success}
+use Rattle.volume.proofs.BlockMap.{size-passed}
 
 -- two byte strings agree from place a up to place b
 abbrev pub Agree : List ℕ → List ℕ → ℕ → ℕ → Type 0

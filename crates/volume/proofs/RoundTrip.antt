@@ -1,5 +1,5 @@
 -- The round trip: a written header's words sum to 0 modulo 65,536, and a volume that starts with it opens to what was written.
-use Prim.Native.Nat.{ℕ, zero, suc, _+_, _-_, _*_, _/_, _%_, _≤_, _<_, _^_}
+use Prim.Native.Nat.{ℕ, suc, _+_, _-_, _*_, _/_, _%_, _<_, _^_}
 use mathlib.Core.Path.{_≡_, refl, sym, ap, ap₂, _∙_}
 use mathlib.Core.Bool.{Bool, true, false, not, _||_, true≢false}
 use mathlib.Core.List.{List, [], _∷_, _++_, append-assoc}
@@ -7,8 +7,8 @@ use mathlib.Core.Option.{Option, none, some}
 use native.Mathlib.Omega.{arith}
 use borrow.Author.Tests.{eqb-true}
 use lib.Dec.{eqb, lit<}
-use lib.ListN.{length, getD, take, drop, replicate, length-append, length-replicate, take-append-drop}
-use lib.Seq.{take-at, drop-at, getD-append-add, drop-append-add}
+use lib.ListN.{length, getD, take, drop, replicate, length-append, take-append-drop}
+use lib.Seq.{take-at}
 use Rattle.common.specs.Refusals.{firstRefusal}
 use Rattle.common.proofs.Refusals.{row-passed}
 use Rattle.numbers.specs.LittleEndian.{le, leBytes}

@@ -1,69 +1,49 @@
+-- `listing::put_lines` meets its contract: the refused line, or the volume's line and the map's.
 use mathlib.Core.List.{[], _∷_}
-use Prim.Native.Nat.{ℕ, _+_, _-_, _*_, _≤_, _<_, _^_}
-use mathlib.Core.Path.{_≡_, refl, sym, ap, _∙_}
+use mathlib.Core.Path.{sym, _∙_}
 use native.Mathlib.Omega.{arith}
+use borrow.Author.Needs.{needs}
 use denote.Ref.{now}
-use lib.ListN.{length}
-use lib.Seq.{sets}
-use lib.ListN.{length-append}
+use lib.ListN.{length, length-append}
 use Rattle.volume.specs.State.{mapOf}
 use Rattle.listing.specs.Listing.{linesOf, refusedLine, refusedWord, lineFeed, field, volumeLine, mapLines}
 use Rattle.listing.proofs.Lines.{sets-then, short-line-put}
-use borrow.Author.Needs.{needs}
 use Rattle.listing.proofs.put_lines.Statement.{statement}
 use Rattle.listing.proofs.put_lines.Tie as tie
-use Rattle.listing.proofs.put_lines.Reads as reads
-use Rattle.listing.proofs.put_lines.Lts as lts
-use Rattle.listing.proofs.put_map_lines.Reads as put-map-lines-reads
-use Rattle.listing.proofs.put_volume_line.Reads as put-volume-line-reads
-use Rattle.listing.proofs.text.put_field.Reads as put-field-reads
-use Rattle.listing.proofs.text.put_word.Reads as put-word-reads
 
--- src/lib.rt:47:26
 enum-known-answer : tie.Need-enum-known-answer
 enum-known-answer c = search needs
 
--- src/lib.rt:48:40
 slice-aggregate-put-word : tie.Need-slice-aggregate-put-word
 slice-aggregate-put-word c = search needs
 
--- src/lib.rt:48:17
 put-word-requires : tie.Need-put-word-requires
 put-word-requires c κs = search needs
 
--- src/lib.rt:49:43
 cast-put-field : tie.Need-cast-put-field
 cast-put-field c = search needs
 
--- src/lib.rt:49:17
 put-field-requires : tie.Need-put-field-requires
 put-field-requires c κs = search needs
 
--- src/lib.rt:50:33
 slice-aggregate-put-word-2 : tie.Need-slice-aggregate-put-word-2
 slice-aggregate-put-word-2 c = search needs
 
--- src/lib.rt:50:13
 put-word-requires-2 : tie.Need-put-word-requires-2
 put-word-requires-2 c κs = search needs
 
--- src/lib.rt:53:38
 enum-told : tie.Need-enum-told
 enum-told c = search needs
 
--- src/lib.rt:53:17
 put-volume-line-requires : tie.Need-put-volume-line-requires
 put-volume-line-requires c κs = search needs
 
--- src/lib.rt:54:13
 put-map-lines-requires : tie.Need-put-map-lines-requires
 put-map-lines-requires c κs = search needs
 
--- src/lib.rt:42:1
 same-length : tie.Need-same-length
 same-length c = search needs
 
--- src/lib.rt:42:1
 returns : tie.Need-returns
 unfolding linesOf refusedLine
 returns c =
@@ -75,11 +55,9 @@ returns c =
     let total = length-append (field (x .0 .0)) (lineFeed ∷ []) in
     rw (x .1) (omega arith, e .1 ∙ rw (f .1, w .1) (short-line-put refusedWord (field (x .0 .0)) (lineFeed ∷ []) (now (a .room)) 0 _ _ (w .0) (f .0)))
 
--- src/lib.rt:42:1
 same-length-2 : tie.Need-same-length-2
 same-length-2 c = search needs
 
--- src/lib.rt:42:1
 returns-2 : tie.Need-returns-2
 unfolding linesOf refusedLine
 returns-2 c =

@@ -1,49 +1,35 @@
-use Prim.Native.Nat.{ℕ, _+_, _-_, _*_, _≤_, _<_, _^_}
-use mathlib.Core.Path.{_≡_, refl, sym, ap, _∙_}
-use native.Mathlib.Omega.{arith}
-use denote.Ref.{now}
-use lib.ListN.{length}
-use lib.Seq.{sets}
+-- `listing::put_map_line` meets its contract: five pieces of text in a row are the line.
+use mathlib.Core.Path.{_∙_}
 use mathlib.Core.List.{[], _∷_}
+use native.Mathlib.Omega.{arith}
+use borrow.Author.Needs.{needs}
+use denote.Ref.{now}
 use Rattle.listing.specs.Listing.{mapWord, lineFeed, field, mapLine}
 use Rattle.listing.proofs.Lines.{line-put, line-length}
-use borrow.Author.Needs.{needs}
 use Rattle.listing.proofs.put_map_line.Statement.{statement}
 use Rattle.listing.proofs.put_map_line.Tie as tie
-use Rattle.listing.proofs.put_map_line.Reads as reads
-use Rattle.listing.proofs.put_map_line.Lts as lts
-use Rattle.listing.proofs.text.put_field.Reads as put-field-reads
-use Rattle.listing.proofs.text.put_word.Reads as put-word-reads
 
--- src/lib.rt:94:32
 slice-aggregate-put-word : tie.Need-slice-aggregate-put-word
 slice-aggregate-put-word c = search needs
 
--- src/lib.rt:94:9
 put-word-requires : tie.Need-put-word-requires
 put-word-requires c κs = search needs
 
--- src/lib.rt:95:9
 put-field-requires : tie.Need-put-field-requires
 put-field-requires c κs = search needs
 
--- src/lib.rt:96:9
 put-field-requires-2 : tie.Need-put-field-requires-2
 put-field-requires-2 c κs = search needs
 
--- src/lib.rt:97:9
 put-field-requires-3 : tie.Need-put-field-requires-3
 put-field-requires-3 c κs = search needs
 
--- src/lib.rt:98:23
 slice-aggregate-put-word-2 : tie.Need-slice-aggregate-put-word-2
 slice-aggregate-put-word-2 c = search needs
 
--- src/lib.rt:98:5
 put-word-requires-2 : tie.Need-put-word-requires-2
 put-word-requires-2 c κs = search needs
 
--- src/lib.rt:90:1
 same-length : tie.Need-same-length
 same-length c =
     c .before .before .put-word2 .kept .0
@@ -52,7 +38,6 @@ same-length c =
     ∙ c .before .before .before .before .before .before .before .before .before .before .before .before .before .before .before .put-field .kept .0
     ∙ c .before .before .before .before .before .before .before .before .before .before .before .before .before .before .before .before .before .before .before .put-word .kept .0
 
--- src/lib.rt:90:1
 returns : tie.Need-returns
 unfolding mapLine
 returns c =

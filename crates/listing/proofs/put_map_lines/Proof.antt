@@ -1,25 +1,16 @@
+-- `listing::put_map_lines` meets its contract: the lines stored and those of the entries left make the map's.
+use Prim.Native.Nat.{ℕ, _+_, _-_, _*_, _≤_, _<_}
 use mathlib.Core.List.{List}
-use lib.ListN.{getD, length-append}
-use lib.Seq.{length-take-le, getD-take}
-use Rattle.listing.specs.Listing.{mapLine}
-use Rattle.listing.proofs.Lines.{sets-then, map-next, map-end}
-use lib.ListN.{take, drop}
-use Prim.Native.Nat.{ℕ, _+_, _-_, _*_, _≤_, _<_, _^_}
 use mathlib.Core.Path.{_≡_, refl, sym, ap, _∙_}
 use native.Mathlib.Omega.{arith}
-use denote.Ref.{now}
-use lib.ListN.{length}
-use lib.Seq.{sets}
-use lib.ListN.{drop}
-use Rattle.volume.specs.State.{mapOf}
-use Rattle.listing.specs.Listing.{mapLines}
 use borrow.Author.Needs.{needs}
+use lib.ListN.{getD, length-append, take, drop, length}
+use lib.Seq.{length-take-le, getD-take, sets}
+use Rattle.listing.specs.Listing.{mapLine, mapLines}
+use Rattle.volume.specs.State.{mapOf}
+use Rattle.listing.proofs.Lines.{sets-then, map-next, map-end}
 use Rattle.listing.proofs.put_map_lines.Statement.{statement}
 use Rattle.listing.proofs.put_map_lines.Tie as tie
-use Rattle.listing.proofs.put_map_lines.Reads as reads
-use Rattle.listing.proofs.put_map_lines.Lts as lts
-use Rattle.listing.proofs.put_map_line.Reads as put-map-line-reads
-use Rattle.listing.proofs.wide.Reads as wide-reads
 
 abbrev Inv-loop : tie.InvT-loop
 Inv-loop room₀ at n map end₀ first₀ i₀ room end first i =
@@ -34,63 +25,48 @@ abbrev μ-loop : tie.MeasureT-loop
 map-length : (c : tie.Start Inv-loop μ-loop) → length (c .args .st .map) ≡ 64
 map-length c = search needs
 
--- src/lib.rt:80:5
 loop-holds : tie.Need-loop-holds Inv-loop μ-loop
 loop-holds c = (search needs, omega arith, search needs, search needs, refl, refl)
 
--- src/lib.rt:81:30
 mul-wide : tie.Need-mul-wide Inv-loop μ-loop
 mul-wide c = search needs
 
--- src/lib.rt:81:26
 mul-wide-2 : tie.Need-mul-wide-2 Inv-loop μ-loop
 mul-wide-2 c = search needs
 
--- src/lib.rt:81:26
 array-read-wide : tie.Need-array-read-wide Inv-loop μ-loop
 array-read-wide c = search needs
 
--- src/lib.rt:81:13
 wide-requires : tie.Need-wide-requires Inv-loop μ-loop
 wide-requires c κs = search needs
 
--- src/lib.rt:82:62
 mul-wide-3 : tie.Need-mul-wide-3 Inv-loop μ-loop
 mul-wide-3 c = search needs
 
--- src/lib.rt:82:62
 add-wide : tie.Need-add-wide Inv-loop μ-loop
 add-wide c = search needs
 
--- src/lib.rt:82:58
 mul-wide-4 : tie.Need-mul-wide-4 Inv-loop μ-loop
 mul-wide-4 c = search needs
 
--- src/lib.rt:82:58
 array-read-wide-2 : tie.Need-array-read-wide-2 Inv-loop μ-loop
 array-read-wide-2 c = search needs
 
--- src/lib.rt:82:53
 wide-requires-2 : tie.Need-wide-requires-2 Inv-loop μ-loop
 wide-requires-2 c κs = search needs
 
--- src/lib.rt:82:9
 put-map-line-requires : tie.Need-put-map-line-requires Inv-loop μ-loop
 put-map-line-requires c κs = let l = c .before .before .before .before .loop in omega (arith, c .before .before .before .before .before .before .before .pre)
 
--- src/lib.rt:83:9
 add-first : tie.Need-add-first Inv-loop μ-loop
 add-first c = let l = c .before .before .before .before .before .before .before .loop in let w = c .before .before .before .before .before .wide .ensures in omega (arith, c .before .before .before .before .before .before .before .before .before .before .pre)
 
--- src/lib.rt:84:9
 add-i : tie.Need-add-i Inv-loop μ-loop
 add-i c = search needs
 
--- src/lib.rt:80:5
 loop-less : tie.Need-loop-less Inv-loop μ-loop
 loop-less c = search needs
 
--- src/lib.rt:80:5
 loop-again : tie.Need-loop-again Inv-loop μ-loop
 loop-again c =
     let a = c .before .before .before .before .before .before .before .before .before .before .args in
@@ -117,11 +93,9 @@ loop-again c =
           ∙ ap (λ (x : List ℕ). sets x (c .before .before .put-map-line .result) rest) (sym (put .1)),
     )
 
--- src/lib.rt:71:1
 same-length : tie.Need-same-length Inv-loop μ-loop
 same-length c = c .before .loop .inv .3
 
--- src/lib.rt:71:1
 returns : tie.Need-returns Inv-loop μ-loop
 unfolding mapOf
 returns c =

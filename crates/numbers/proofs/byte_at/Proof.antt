@@ -1,21 +1,17 @@
-use denote.Ref.{now}
+-- `numbers::byte_at` meets its contract: past the end both are 0.
 use mathlib.Core.Path.{sym}
-use lib.ListN.{List·getD-eq-default}
 use borrow.Author.Needs.{needs}
+use denote.Ref.{now}
+use lib.ListN.{List·getD-eq-default}
 use Rattle.numbers.proofs.byte_at.Statement.{statement}
 use Rattle.numbers.proofs.byte_at.Tie as tie
-use Rattle.numbers.proofs.byte_at.Reads as reads
-use Rattle.numbers.proofs.byte_at.Lts as lts
 
--- src/lib.rt:15:23
 shared-slice-read-result : tie.Need-shared-slice-read-result
 shared-slice-read-result c = search needs
 
--- src/lib.rt:12:1
 returns : tie.Need-returns
 returns c = search needs
 
--- src/lib.rt:12:1
 returns-2 : tie.Need-returns-2
 returns-2 c = sym (List·getD-eq-default (now (c .before .args .s)) 0 (c .if1 .left))
 

@@ -1,19 +1,15 @@
-use mathlib.Core.Path.{sym, _∙_}
+-- `numbers::number_at` meets its contract: the loop goes down from the highest byte, and holds the number of the bytes passed.
+use Prim.Native.Nat.{_+_, _-_, _^_, _≤_, _<_}
+use mathlib.Core.Path.{sym, _∙_, _≡_}
+use native.Mathlib.Nat.{sub-zero}
+use native.Mathlib.Omega.{arith}
+use borrow.Author.Needs.{needs}
 use denote.Ref.{now}
 use lib.Dec.{lit<}
-use native.Mathlib.Nat.{sub-zero}
-use Rattle.numbers.proofs.LittleEndian.{le-none, le-whole, bound-none}
-use borrow.Author.Needs.{needs}
-use Prim.Native.Nat.{ℕ, _+_, _-_, _^_, _≤_, _<_}
-use mathlib.Core.Path.{_≡_}
-use native.Mathlib.Omega.{arith}
+use Rattle.numbers.proofs.LittleEndian.{le-none, le-whole, bound-none, le-past, le-more, bound-more, bound-fits}
 use Rattle.numbers.specs.LittleEndian.{le}
-use Rattle.numbers.proofs.LittleEndian.{le-past, le-more, bound-more, bound-fits}
 use Rattle.numbers.proofs.number_at.Statement.{statement}
 use Rattle.numbers.proofs.number_at.Tie as tie
-use Rattle.numbers.proofs.number_at.Reads as reads
-use Rattle.numbers.proofs.number_at.Lts as lts
-use Rattle.numbers.proofs.byte_at.Reads as byte-at-reads
 
 abbrev Inv-loop : tie.InvT-loop
 Inv-loop s at width value₀ i₀ value i =
@@ -22,43 +18,33 @@ Inv-loop s at width value₀ i₀ value i =
 abbrev μ-loop : tie.MeasureT-loop
 μ-loop s at width value₀ i₀ value i = i
 
--- src/lib.rt:71:9
 returns : tie.Need-returns Inv-loop μ-loop
 returns c = (sym (le-past _ _ _ (c .if1 .taken)), bound-none _)
 
--- src/lib.rt:75:5
 loop-holds : tie.Need-loop-holds Inv-loop μ-loop
 loop-holds c = (search needs, sym (le-none _ _ _), bound-none _)
 
--- src/lib.rt:76:9
 sub-i : tie.Need-sub-i Inv-loop μ-loop
 sub-i c = search needs
 
--- src/lib.rt:77:17
 mul-value : tie.Need-mul-value Inv-loop μ-loop
 mul-value c = let l = c .before .loop in omega (arith, bound-fits _ (l .i) (l .value) 0 (search needs) (l .inv .0) (search needs) (l .inv .2) (lit< tt))
 
--- src/lib.rt:77:42
 add-byte-at : tie.Need-add-byte-at Inv-loop μ-loop
 add-byte-at c = search needs
 
--- src/lib.rt:77:31
 byte-at-requires : tie.Need-byte-at-requires Inv-loop μ-loop
 byte-at-requires c κs = search needs
 
--- src/lib.rt:77:31
 cast-value : tie.Need-cast-value Inv-loop μ-loop
 cast-value c = search needs
 
--- src/lib.rt:77:17
 add-value : tie.Need-add-value Inv-loop μ-loop
 add-value c = let l = c .before .before .loop in record { fits = bound-fits _ (l .i) _ _ (search needs) (l .inv .0) (search needs) (l .inv .2) (search needs) }
 
--- src/lib.rt:75:5
 loop-less : tie.Need-loop-less Inv-loop μ-loop
 loop-less c = search needs
 
--- src/lib.rt:75:5
 loop-again : tie.Need-loop-again Inv-loop μ-loop
 loop-again c =
     let l = c .before .before .loop in
@@ -68,7 +54,6 @@ loop-again c =
       bound-more _ (l .i) _ _ (search needs) (l .inv .0) (l .inv .2) (search needs),
     )
 
--- src/lib.rt:66:1
 returns-2 : tie.Need-returns-2 Inv-loop μ-loop
 returns-2 c =
     let l = c .before .loop in

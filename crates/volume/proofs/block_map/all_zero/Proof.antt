@@ -1,15 +1,13 @@
+-- `volume::block_map::all_zero` meets its contract: every word passed is zero, so the rest of the list decides.
+use Prim.Native.Nat.{_-_, _≤_}
+use mathlib.Core.Path.{_≡_, sym, _∙_, refl}
+use borrow.Author.Needs.{needs}
 use denote.Ref.{now}
-use Prim.Native.Nat.{_+_, _-_, _≤_}
-use mathlib.Core.Path.{_≡_, sym, _∙_}
 use lib.ListN.{length, drop}
-use mathlib.Core.Path.{refl}
 use Rattle.volume.specs.BlockMap.{allZero}
 use Rattle.volume.proofs.BlockMap.{allZero-here, allZero-next, allZero-end}
-use borrow.Author.Needs.{needs}
 use Rattle.volume.proofs.block_map.all_zero.Statement.{statement}
 use Rattle.volume.proofs.block_map.all_zero.Tie as tie
-use Rattle.volume.proofs.block_map.all_zero.Reads as reads
-use Rattle.volume.proofs.block_map.all_zero.Lts as lts
 
 abbrev Inv-loop : tie.InvT-loop
 Inv-loop words i₀ i = (i ≤ length words) × (allZero (drop i words) ≡ allZero words)
@@ -17,35 +15,27 @@ Inv-loop words i₀ i = (i ≤ length words) × (allZero (drop i words) ≡ allZ
 abbrev μ-loop : tie.MeasureT-loop
 μ-loop words i₀ i = length words - i
 
--- src/block_map.rt:37:5
 loop-holds : tie.Need-loop-holds Inv-loop μ-loop
 loop-holds c = (search needs, refl)
 
--- src/block_map.rt:38:12
 mul-if1 : tie.Need-mul-if1 Inv-loop μ-loop
 mul-if1 c = search needs
 
--- src/block_map.rt:38:12
 shared-slice-read-if1 : tie.Need-shared-slice-read-if1 Inv-loop μ-loop
 shared-slice-read-if1 c = search needs
 
--- src/block_map.rt:39:13
 returns : tie.Need-returns Inv-loop μ-loop
 returns c = let l = c .before .before .before .loop in allZero-here (now (c .before .before .before .before .args .words)) (l .i) (search needs) (c .if1 .taken) ∙ l .inv .1
 
--- src/block_map.rt:41:9
 add-i : tie.Need-add-i Inv-loop μ-loop
 add-i c = search needs
 
--- src/block_map.rt:37:5
 loop-less : tie.Need-loop-less Inv-loop μ-loop
 loop-less c = search needs
 
--- src/block_map.rt:37:5
 loop-again : tie.Need-loop-again Inv-loop μ-loop
 loop-again c = let l = c .before .before .before .loop in (search needs, sym (allZero-next (now (c .before .before .before .before .args .words)) (l .i) (search needs) (c .if1 .left)) ∙ l .inv .1)
 
--- src/block_map.rt:33:1
 returns-2 : tie.Need-returns-2 Inv-loop μ-loop
 returns-2 c = let l = c .before .loop in allZero-end (now (c .before .before .args .words)) (l .i) (search needs) ∙ l .inv .1
 

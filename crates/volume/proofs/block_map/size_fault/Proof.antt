@@ -1,47 +1,37 @@
-use borrow.Author.Tests.{eq-eqb, ne-eqb, lt-ltb, le-ltb}
+-- `volume::block_map::size_fault` meets its contract: each test is one of rule 107's; the totals come last.
 use mathlib.Core.Bool.{or-true, or-false}
+use borrow.Author.Tests.{eq-eqb, ne-eqb, lt-ltb, le-ltb}
+use borrow.Author.Needs.{needs}
 use Rattle.common.specs.Refusals.{any}
 use Rattle.volume.specs.BlockMap.{sizeFault}
-use borrow.Author.Needs.{needs}
 use Rattle.volume.proofs.block_map.size_fault.Statement.{statement}
 use Rattle.volume.proofs.block_map.size_fault.Tie as tie
-use Rattle.volume.proofs.block_map.size_fault.Reads as reads
-use Rattle.volume.proofs.block_map.size_fault.Lts as lts
-use Rattle.volume.proofs.block_map.totals_fault.Reads as totals-fault-reads
 
--- src/block_map.rt:55:9
 returns : tie.Need-returns
 unfolding sizeFault any
 returns c = simp (eq-eqb _ _ (c .if1 .taken))
 
--- src/block_map.rt:58:9
 returns-2 : tie.Need-returns-2
 unfolding sizeFault any
 returns-2 c = simp (ne-eqb _ _ (c .before .if1 .left), lt-ltb _ _ (c .if2 .taken))
 
--- src/block_map.rt:61:9
 returns-3 : tie.Need-returns-3
 unfolding sizeFault any
 returns-3 c = simp (lt-ltb _ _ (c .if3 .taken), or-true)
 
--- src/block_map.rt:63:23
 mul-header : tie.Need-mul-header
 mul-header c = search needs
 
--- src/block_map.rt:63:18
 add-header : tie.Need-add-header
 add-header c = search needs
 
--- src/block_map.rt:65:9
 returns-4 : tie.Need-returns-4
 unfolding sizeFault any
 returns-4 c = simp (lt-ltb _ _ (c .if4 .taken), or-true)
 
--- src/block_map.rt:67:5
 totals-fault-requires : tie.Need-totals-fault-requires
 totals-fault-requires c κs = search needs
 
--- src/block_map.rt:50:1
 returns-5 : tie.Need-returns-5
 unfolding sizeFault any
 returns-5 c =

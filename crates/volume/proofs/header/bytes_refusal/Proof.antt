@@ -1,25 +1,18 @@
-use lib.Seq.{length-take-le}
-use Rattle.volume.specs.Header.{headerLengthAt, headerLengthFault}
-use Rattle.volume.proofs.HeaderLaws.{header-length-passed}
+-- `volume::header::bytes_refusal` meets its contract: each return is the first row of the table whose test holds.
 use mathlib.Core.Path.{_≡_, sym, _∙_}
 use mathlib.Core.Bool.{true, false}
+use borrow.Author.Tests.{eq-eqb, ne-eqb, lt-ltb, le-ltb}
+use borrow.Author.Needs.{needs}
 use denote.Ref.{now}
+use lib.Seq.{length-take-le}
 use lib.Dec.{eqb, ltb}
 use lib.ListN.{length, getD}
-use borrow.Author.Tests.{eq-eqb, ne-eqb, lt-ltb, le-ltb}
 use Rattle.common.specs.Refusals.{firstRefusal}
 use Rattle.numbers.specs.LittleEndian.{le}
-use Rattle.volume.specs.Header.{signature, answered, bytesRefusals}
-use borrow.Author.Needs.{needs}
+use Rattle.volume.specs.Header.{headerLengthAt, headerLengthFault, signature, answered, bytesRefusals}
+use Rattle.volume.proofs.HeaderLaws.{header-length-passed}
 use Rattle.volume.proofs.header.bytes_refusal.Statement.{statement}
 use Rattle.volume.proofs.header.bytes_refusal.Tie as tie
-use Rattle.volume.proofs.header.bytes_refusal.Reads as reads
-use Rattle.volume.proofs.header.bytes_refusal.Lts as lts
-use Rattle.numbers.proofs.byte_at.Reads as byte-at-reads
-use Rattle.numbers.proofs.u16_at.Reads as u16-at-reads
-use Rattle.numbers.proofs.u32_at.Reads as u32-at-reads
-use Rattle.volume.proofs.header.header_length_fault.Reads as header-length-fault-reads
-use Rattle.volume.proofs.header.word_sum.Reads as word-sum-reads
 
 -- the tests that each next one stands behind, as the table has them
 long : (c : tie.Else1) → ltb (length (now (c .before .before .args .s))) 72 ≡ false
@@ -34,62 +27,49 @@ revised c = eq-eqb _ _ (sym (c .before .byte-at .ensures) ∙ c .if3 .left)
 measured : (c : tie.Else4) → headerLengthFault (headerLengthAt (now (c .before .before .before .before .before .before .before .before .before .args .s))) (length (now (c .before .before .before .before .before .before .before .before .before .args .s))) ≡ false
 measured c = rw (c .before .before .u16-at .ensures) at (sym (c .before .header-length-fault .ensures) ∙ c .if4 .left)
 
--- src/header.rt:79:9
 returns : tie.Need-returns
 unfolding answered firstRefusal bytesRefusals
 returns c = simp (lt-ltb _ _ (c .if1 .taken))
 
--- src/header.rt:81:8
 u32-at-requires : tie.Need-u32-at-requires
 u32-at-requires c κs = search needs
 
--- src/header.rt:82:9
 returns-2 : tie.Need-returns-2
 unfolding answered firstRefusal bytesRefusals
 returns-2 c = simp (long (c .before .before), ne-eqb _ _ (λ e. c .if2 .taken (c .before .u32-at .ensures ∙ e)))
 
--- src/header.rt:84:8
 byte-at-requires : tie.Need-byte-at-requires
 byte-at-requires c κs = search needs
 
--- src/header.rt:85:9
 returns-3 : tie.Need-returns-3
 unfolding answered firstRefusal bytesRefusals
 returns-3 c = simp (long (c .before .before .before .before), signed (c .before .before), ne-eqb _ _ (λ e. c .if3 .taken (c .before .byte-at .ensures ∙ e)))
 
--- src/header.rt:87:18
 u16-at-requires : tie.Need-u16-at-requires
 u16-at-requires c κs = search needs
 
--- src/header.rt:87:18
 cast-header : tie.Need-cast-header
 cast-header c = search needs
 
--- src/header.rt:88:8
 header-length-fault-requires : tie.Need-header-length-fault-requires
 header-length-fault-requires c κs = search needs
 
--- src/header.rt:89:9
 returns-4 : tie.Need-returns-4
 unfolding answered firstRefusal bytesRefusals
 returns-4 c = simp (long (c .before .before .before .before .before .before .before), signed (c .before .before .before .before .before), revised (c .before .before .before), rw (c .before .before .u16-at .ensures) at (sym (c .before .header-length-fault .ensures) ∙ c .if4 .taken))
 
--- src/header.rt:91:17
 slice-aggregate-word-sum : tie.Need-slice-aggregate-word-sum
 slice-aggregate-word-sum c = sym (length-take-le _ _ (header-length-passed _ _ (sym (c .before .before .header-length-fault .ensures) ∙ c .before .if4 .left) .2))
 
--- src/header.rt:91:8
 word-sum-requires : tie.Need-word-sum-requires
 word-sum-requires c κs =
     let h = header-length-passed _ _ (sym (c .before .before .header-length-fault .ensures) ∙ c .before .if4 .left) in
     rw (length-take-le _ _ (h .2)) (h .1)
 
--- src/header.rt:92:9
 returns-5 : tie.Need-returns-5
 unfolding answered firstRefusal bytesRefusals
 returns-5 c = simp (long (c .before .before .before .before .before .before .before .before .before .before), signed (c .before .before .before .before .before .before .before .before), revised (c .before .before .before .before .before .before), measured (c .before .before .before), ne-eqb _ _ (λ e. c .if5 .taken (rw (c .before .word-sum .ensures, c .before .before .before .before .before .u16-at .ensures) e)))
 
--- src/header.rt:75:1
 returns-6 : tie.Need-returns-6
 unfolding answered firstRefusal bytesRefusals
 returns-6 c = simp (long (c .before .before .before .before .before .before .before .before .before .before), signed (c .before .before .before .before .before .before .before .before), revised (c .before .before .before .before .before .before), measured (c .before .before .before), eq-eqb _ _ (rw (c .before .word-sum .ensures, c .before .before .before .before .before .u16-at .ensures) at (c .if5 .left)))

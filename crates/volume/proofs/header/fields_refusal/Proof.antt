@@ -1,26 +1,19 @@
+-- `volume::header::fields_refusal` meets its contract: each return is the first row of the table whose test holds.
 use mathlib.Core.Path.{_≡_, sym, _∙_}
-use mathlib.Core.Bool.{true, false}
+use mathlib.Core.Bool.{false}
 use native.Mathlib.Omega.{arith}
+use borrow.Author.Tests.{eq-eqb, ne-eqb, lt-ltb, le-ltb}
+use borrow.Author.Needs.{needs}
 use denote.Ref.{now}
 use lib.ListN.{length}
 use lib.Seq.{length-take-le}
-use borrow.Author.Tests.{eq-eqb, ne-eqb, lt-ltb, le-ltb}
+use Rattle.common.specs.Refusals.{firstRefusal}
 use Rattle.volume.specs.Attributes.{attributesFault}
 use Rattle.volume.specs.BlockMap.{hasZero, sizeFault}
 use Rattle.volume.specs.State.{mapOf}
-use Rattle.common.specs.Refusals.{firstRefusal}
 use Rattle.volume.specs.Header.{answered, fieldsRefusals, mapFault}
-use borrow.Author.Needs.{needs}
 use Rattle.volume.proofs.header.fields_refusal.Statement.{statement}
 use Rattle.volume.proofs.header.fields_refusal.Tie as tie
-use Rattle.volume.proofs.header.fields_refusal.Reads as reads
-use Rattle.volume.proofs.header.fields_refusal.Lts as lts
-use Rattle.numbers.proofs.u16_at.Reads as u16-at-reads
-use Rattle.numbers.proofs.u64_at.Reads as u64-at-reads
-use Rattle.volume.proofs.attributes.attributes_fault.Reads as attributes-fault-reads
-use Rattle.volume.proofs.attributes.base_fault.Reads as base-fault-reads
-use Rattle.volume.proofs.block_map.has_zero.Reads as has-zero-reads
-use Rattle.volume.proofs.block_map.size_fault.Reads as size-fault-reads
 
 -- the map is an array of 64 words
 map-length : (c : tie.Start) → length (c .args .st .map) ≡ 64
@@ -42,89 +35,69 @@ sized c = sym (c .before .size-fault .ensures) ∙ c .if3 .left
 allowed : (c : tie.Else4) → attributesFault (c .before .before .before .before .before .before .before .before .before .before .before .before .before .args .st .attributes) ≡ false
 allowed c = sym (c .before .attributes-fault .ensures) ∙ c .if4 .left
 
--- src/header.rt:104:15
 mul-end : tie.Need-mul-end
 mul-end c = search needs
 
--- src/header.rt:105:19
 u16-at-requires : tie.Need-u16-at-requires
 u16-at-requires c κs = search needs
 
--- src/header.rt:105:19
 cast-closing : tie.Need-cast-closing
 cast-closing c = search needs
 
--- src/header.rt:105:19
 sub-closing : tie.Need-sub-closing
 sub-closing c = search needs
 
--- src/header.rt:106:17
 array-share-prefix-map : tie.Need-array-share-prefix-map
 array-share-prefix-map c = omega (arith, map-length (c .before .before .before))
 
--- src/header.rt:106:17
 slice-aggregate-has-zero : tie.Need-slice-aggregate-has-zero
 slice-aggregate-has-zero c = sym (length-take-le _ _ (omega (arith, map-length (c .before .before .before .before))))
 
--- src/header.rt:106:8
 has-zero-requires : tie.Need-has-zero-requires
 has-zero-requires c κs = search needs
 
--- src/header.rt:107:9
 returns : tie.Need-returns
 unfolding answered firstRefusal fieldsRefusals mapFault mapOf
 returns c = simp (sym (c .before .has-zero .ensures) ∙ c .if1 .taken)
 
--- src/header.rt:109:8
 u64-at-requires : tie.Need-u64-at-requires
 u64-at-requires c κs = search needs
 
--- src/header.rt:110:9
 returns-2 : tie.Need-returns-2
 unfolding answered firstRefusal fieldsRefusals mapFault
 returns-2 c = simp (nonzero (c .before .before), ne-eqb _ _ (λ e. c .if2 .taken (rw (c .before .u64-at .ensures, c .before .before .before .before .before .u16-at .ensures) e)))
 
--- src/header.rt:112:22
 array-share-prefix-map-2 : tie.Need-array-share-prefix-map-2
 array-share-prefix-map-2 c = omega (arith, map-length (c .before .before .before .before .before .before .before .before))
 
--- src/header.rt:112:22
 slice-aggregate-size-fault : tie.Need-slice-aggregate-size-fault
 slice-aggregate-size-fault c = sym (length-take-le _ _ (omega (arith, map-length (c .before .before .before .before .before .before .before .before .before))))
 
--- src/header.rt:112:8
 size-fault-requires : tie.Need-size-fault-requires
 size-fault-requires c κs = length-take-le _ _ (omega (arith, map-length (c .before .before .before .before .before .before .before .before .before)))
 
--- src/header.rt:113:9
 returns-3 : tie.Need-returns-3
 unfolding answered firstRefusal fieldsRefusals mapOf
 returns-3 c = simp (mapped (c .before .before .before), sym (c .before .size-fault .ensures) ∙ c .if3 .taken)
 
--- src/header.rt:115:8
 attributes-fault-requires : tie.Need-attributes-fault-requires
 attributes-fault-requires c κs = search needs
 
--- src/header.rt:116:9
 returns-4 : tie.Need-returns-4
 unfolding answered firstRefusal fieldsRefusals
 returns-4 c = simp (mapped (c .before .before .before .before .before), sized (c .before .before), sym (c .before .attributes-fault .ensures) ∙ c .if4 .taken)
 
--- src/header.rt:119:9
 returns-5 : tie.Need-returns-5
 unfolding answered firstRefusal fieldsRefusals
 returns-5 c = simp (mapped (c .before .before .before .before .before .before .before), sized (c .before .before .before .before), allowed (c .before .before), lt-ltb _ _ (c .if5 .taken))
 
--- src/header.rt:121:8
 base-fault-requires : tie.Need-base-fault-requires
 base-fault-requires c κs = search needs
 
--- src/header.rt:122:9
 returns-6 : tie.Need-returns-6
 unfolding answered firstRefusal fieldsRefusals
 returns-6 c = simp (mapped (c .before .before .before .before .before .before .before .before .before), sized (c .before .before .before .before .before .before), allowed (c .before .before .before .before), le-ltb _ _ (c .before .before .if5 .left), sym (c .before .base-fault .ensures) ∙ c .if6 .taken)
 
--- src/header.rt:98:1
 returns-7 : tie.Need-returns-7
 unfolding answered firstRefusal fieldsRefusals
 returns-7 c = simp (mapped (c .before .before .before .before .before .before .before .before .before), sized (c .before .before .before .before .before .before), allowed (c .before .before .before .before), le-ltb _ _ (c .before .before .if5 .left), sym (c .before .base-fault .ensures) ∙ c .if6 .left)

@@ -1,20 +1,16 @@
-use Rattle.common.proofs.Lists.{fill-next, fill-done}
-use lib.ListN.{length-set}
-use Rattle.common.proofs.Lists.{zeros-next, fill-front}
-use Rattle.volume.proofs.HeaderLaws.{length-wordsAt, wordsAt-at}
-use Prim.Native.Nat.{ℕ, _+_, _-_, _*_, _≤_, _<_}
+-- `volume::header::map_at` meets its contract: the words stored so far and those left make the map, and zeros stand beyond them.
+use Prim.Native.Nat.{ℕ, _-_, _*_, _≤_}
 use mathlib.Core.Path.{_≡_, refl, sym, ap, _∙_}
 use mathlib.Core.List.{List, _++_}
 use native.Mathlib.Omega.{arith}
-use denote.Ref.{now}
-use lib.ListN.{length, getD, take, drop, replicate}
-use Rattle.volume.specs.Header.{wordsAt}
 use borrow.Author.Needs.{needs}
+use denote.Ref.{now}
+use lib.ListN.{length-set, length, take, drop, replicate}
+use Rattle.common.proofs.Lists.{fill-next, zeros-next, fill-front}
+use Rattle.volume.specs.Header.{wordsAt}
+use Rattle.volume.proofs.HeaderLaws.{length-wordsAt, wordsAt-at}
 use Rattle.volume.proofs.header.map_at.Statement.{statement}
 use Rattle.volume.proofs.header.map_at.Tie as tie
-use Rattle.volume.proofs.header.map_at.Reads as reads
-use Rattle.volume.proofs.header.map_at.Lts as lts
-use Rattle.numbers.proofs.u32_at.Reads as u32-at-reads
 
 abbrev Inv-loop : tie.InvT-loop
 Inv-loop s n map₀ i₀ map i = (i ≤ 2 * n) × (length map ≡ 64) × (drop i map ≡ replicate (64 - i) 0) × (take i map ++ drop i (wordsAt (2 * n) s 56) ≡ wordsAt (2 * n) s 56)
@@ -22,43 +18,33 @@ Inv-loop s n map₀ i₀ map i = (i ≤ 2 * n) × (length map ≡ 64) × (drop i
 abbrev μ-loop : tie.MeasureT-loop
 μ-loop s n map₀ i₀ map i = 2 * n - i
 
--- src/header.rt:196:5
 loop-holds : tie.Need-loop-holds Inv-loop μ-loop
 loop-holds c = (search needs, refl, refl, refl)
 
--- src/header.rt:196:15
 mul-loop : tie.Need-mul-loop Inv-loop μ-loop
 mul-loop c = search needs
 
--- src/header.rt:197:42
 mul-u32-at : tie.Need-mul-u32-at Inv-loop μ-loop
 mul-u32-at c = search needs
 
--- src/header.rt:197:37
 add-u32-at : tie.Need-add-u32-at Inv-loop μ-loop
 add-u32-at c = search needs
 
--- src/header.rt:197:18
 u32-at-requires : tie.Need-u32-at-requires Inv-loop μ-loop
 u32-at-requires c κs = search needs
 
--- src/header.rt:197:9
 mul-map : tie.Need-mul-map Inv-loop μ-loop
 mul-map c = search needs
 
--- src/header.rt:197:9
 array-write-map : tie.Need-array-write-map Inv-loop μ-loop
 array-write-map c = search needs
 
--- src/header.rt:198:9
 add-i : tie.Need-add-i Inv-loop μ-loop
 add-i c = search needs
 
--- src/header.rt:196:5
 loop-less : tie.Need-loop-less Inv-loop μ-loop
 loop-less c = search needs
 
--- src/header.rt:196:5
 loop-again : tie.Need-loop-again Inv-loop μ-loop
 loop-again c =
     let l = c .before .before .loop in
@@ -72,7 +58,6 @@ loop-again c =
           (wordsAt-at (2 * n) s 56 (l .i) (search needs) ∙ sym (c .u32-at .ensures)) (l .inv .3),
     )
 
--- src/header.rt:190:1
 returns : tie.Need-returns Inv-loop μ-loop
 returns c =
     let l = c .before .loop in

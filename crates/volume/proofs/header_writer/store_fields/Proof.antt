@@ -1,72 +1,55 @@
+-- `volume::header_writer::store_fields` meets its contract: nine runs of stores in a row are the header's first 56 bytes.
 use mathlib.Core.Path.{_≡_, _∙_}
+use borrow.Author.Needs.{needs}
 use denote.Ref.{now}
 use lib.ListN.{length}
 use Rattle.volume.proofs.HeaderWriterLaws.{fields-stored}
-use borrow.Author.Needs.{needs}
 use Rattle.volume.proofs.header_writer.store_fields.Statement.{statement}
 use Rattle.volume.proofs.header_writer.store_fields.Tie as tie
-use Rattle.volume.proofs.header_writer.store_fields.Reads as reads
-use Rattle.volume.proofs.header_writer.store_fields.Lts as lts
-use Rattle.numbers.proofs.store.Reads as store-reads
-use Rattle.numbers.proofs.store_bytes.Reads as store-bytes-reads
 
 -- the GUID is an array of 16 bytes
 guid-length : (c : tie.Start) → length (c .args .t1) ≡ 16
 guid-length c = search needs
 
--- src/header_writer.rt:58:5
 store-requires : tie.Need-store-requires
 store-requires c κs = search needs
 
--- src/header_writer.rt:59:5
 store-requires-2 : tie.Need-store-requires-2
 store-requires-2 c κs = search needs
 
--- src/header_writer.rt:60:27
 slice-aggregate-store-bytes : tie.Need-slice-aggregate-store-bytes
 slice-aggregate-store-bytes c = search needs
 
--- src/header_writer.rt:60:5
 store-bytes-requires : tie.Need-store-bytes-requires
 store-bytes-requires c κs = search needs
 
--- src/header_writer.rt:61:5
 store-requires-3 : tie.Need-store-requires-3
 store-requires-3 c κs = search needs
 
--- src/header_writer.rt:62:33
 cast-store : tie.Need-cast-store
 cast-store c = search needs
 
--- src/header_writer.rt:62:5
 store-requires-4 : tie.Need-store-requires-4
 store-requires-4 c κs = search needs
 
--- src/header_writer.rt:63:5
 store-requires-5 : tie.Need-store-requires-5
 store-requires-5 c κs = search needs
 
--- src/header_writer.rt:64:38
 mul-store : tie.Need-mul-store
 mul-store c = search needs
 
--- src/header_writer.rt:64:33
 add-store : tie.Need-add-store
 add-store c = search needs
 
--- src/header_writer.rt:64:5
 store-requires-6 : tie.Need-store-requires-6
 store-requires-6 c κs = search needs
 
--- src/header_writer.rt:65:5
 store-requires-7 : tie.Need-store-requires-7
 store-requires-7 c κs = search needs
 
--- src/header_writer.rt:66:5
 store-requires-8 : tie.Need-store-requires-8
 store-requires-8 c κs = search needs
 
--- src/header_writer.rt:54:1
 same-length : tie.Need-same-length
 same-length c =
     c .before .before .store8 .kept .0
@@ -79,7 +62,6 @@ same-length c =
     ∙ c .before .before .before .before .before .before .before .before .before .before .before .before .before .before .before .before .before .before .before .before .before .before .before .before .before .before .before .before .before .before .before .store2 .kept .0
     ∙ c .before .before .before .before .before .before .before .before .before .before .before .before .before .before .before .before .before .before .before .before .before .before .before .before .before .before .before .before .before .before .before .before .before .before .before .store .kept .0
 
--- src/header_writer.rt:54:1
 returns : tie.Need-returns
 returns c =
     let a = c .before .before .before .before .before .before .before .before .before .before .before .before .before .before .before .before .before .before .before .before .before .before .before .before .before .before .before .before .before .before .before .before .before .before .before .before .before .before .args in

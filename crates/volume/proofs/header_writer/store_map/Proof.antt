@@ -1,20 +1,17 @@
-use Rattle.numbers.specs.LittleEndian.{leBytes}
-use Prim.Native.Nat.{ℕ, _+_, _-_, _*_, _≤_, _<_}
+-- `volume::header_writer::store_map` meets its contract: what is left of the map's bytes to store makes the same room as the whole.
+use Prim.Native.Nat.{ℕ, _+_, _-_, _*_, _≤_}
 use mathlib.Core.Path.{_≡_, refl, sym, ap, _∙_}
 use mathlib.Core.List.{List, _++_}
 use native.Mathlib.Omega.{arith}
+use borrow.Author.Needs.{needs}
 use denote.Ref.{now}
-use lib.ListN.{length, getD, take, drop, replicate}
+use lib.ListN.{length, drop, replicate}
 use lib.Seq.{sets}
+use Rattle.numbers.specs.LittleEndian.{leBytes}
 use Rattle.volume.specs.HeaderWriter.{wordsBytes}
 use Rattle.volume.proofs.HeaderWriterLaws.{words-next, words-end}
-use borrow.Author.Needs.{needs}
 use Rattle.volume.proofs.header_writer.store_map.Statement.{statement}
 use Rattle.volume.proofs.header_writer.store_map.Tie as tie
-use Rattle.volume.proofs.header_writer.store_map.Reads as reads
-use Rattle.volume.proofs.header_writer.store_map.Lts as lts
-use Rattle.numbers.proofs.store.Reads as store-reads
-use Rattle.volume.proofs.block_map.wide.Reads as wide-reads
 
 abbrev Inv-loop : tie.InvT-loop
 Inv-loop map room₀ i₀ room i = (i ≤ length map) × (length room ≡ length room₀) × (sets room₀ 56 (wordsBytes map ++ replicate 8 0) ≡ sets room (56 + 4 * i) (wordsBytes (drop i map) ++ replicate 8 0))
@@ -22,43 +19,33 @@ Inv-loop map room₀ i₀ room i = (i ≤ length map) × (length room ≡ length
 abbrev μ-loop : tie.MeasureT-loop
 μ-loop map room₀ i₀ room i = length map - i
 
--- src/header_writer.rt:75:5
 loop-holds : tie.Need-loop-holds Inv-loop μ-loop
 loop-holds c = (search needs, search needs, refl)
 
--- src/header_writer.rt:76:35
 mul-store : tie.Need-mul-store Inv-loop μ-loop
 mul-store c = search needs
 
--- src/header_writer.rt:76:30
 add-store : tie.Need-add-store Inv-loop μ-loop
 add-store c = search needs
 
--- src/header_writer.rt:76:50
 mul-wide : tie.Need-mul-wide Inv-loop μ-loop
 mul-wide c = search needs
 
--- src/header_writer.rt:76:50
 shared-slice-read-wide : tie.Need-shared-slice-read-wide Inv-loop μ-loop
 shared-slice-read-wide c = search needs
 
--- src/header_writer.rt:76:45
 wide-requires : tie.Need-wide-requires Inv-loop μ-loop
 wide-requires c κs = search needs
 
--- src/header_writer.rt:76:9
 store-requires : tie.Need-store-requires Inv-loop μ-loop
 store-requires c κs = search needs
 
--- src/header_writer.rt:77:9
 add-i : tie.Need-add-i Inv-loop μ-loop
 add-i c = search needs
 
--- src/header_writer.rt:75:5
 loop-less : tie.Need-loop-less Inv-loop μ-loop
 loop-less c = search needs
 
--- src/header_writer.rt:75:5
 loop-again : tie.Need-loop-again Inv-loop μ-loop
 loop-again c =
     let l = c .before .before .before .before .before .before .before .loop in
@@ -66,23 +53,18 @@ loop-again c =
     let stored = rw (c .before .before .before .wide .ensures .0) at (c .before .before .store .ensures) in
     (search needs, c .before .before .store .kept .0 ∙ l .inv .1, l .inv .2 ∙ words-next (now (a .map)) (l .room) (replicate 8 0) (l .i) (omega arith) ∙ ap (λ (x : List ℕ). sets x (56 + 4 * (l .i + 1)) (wordsBytes (drop (l .i + 1) (now (a .map))) ++ replicate 8 0)) (sym stored))
 
--- src/header_writer.rt:79:31
 mul-store-2 : tie.Need-mul-store-2 Inv-loop μ-loop
 mul-store-2 c = search needs
 
--- src/header_writer.rt:79:26
 add-store-2 : tie.Need-add-store-2 Inv-loop μ-loop
 add-store-2 c = search needs
 
--- src/header_writer.rt:79:5
 store-requires-2 : tie.Need-store-requires-2 Inv-loop μ-loop
 store-requires-2 c κs = search needs
 
--- src/header_writer.rt:70:1
 same-length : tie.Need-same-length Inv-loop μ-loop
 same-length c = search needs
 
--- src/header_writer.rt:70:1
 returns : tie.Need-returns Inv-loop μ-loop
 unfolding leBytes
 returns c =

@@ -1,36 +1,25 @@
-use lib.ListN.{take}
-use lib.Seq.{take-at}
-use Rattle.numbers.specs.LittleEndian.{leBytes}
-use Rattle.volume.specs.Header.{wordSum}
-use Rattle.volume.specs.HeaderWriter.{checksum, headerBytes}
+-- `volume::header_writer::write_header` meets its contract: each refusal is the first row that holds; else the stores make the header, then its checksum.
 use Prim.Native.Nat.{ℕ, _+_, _*_, _/_}
 use mathlib.Core.Path.{_≡_, sym, ap, _∙_}
-use mathlib.Core.Bool.{true, false, or-true}
+use mathlib.Core.Bool.{false, or-true}
 use mathlib.Core.List.{List, _++_}
 use mathlib.Core.Option.{none}
 use native.Mathlib.Omega.{arith}
-use denote.Ref.{now}
-use lib.ListN.{length, drop, replicate}
-use lib.Seq.{sets}
 use borrow.Author.Tests.{eq-eqb, ne-eqb, lt-ltb, le-ltb}
+use borrow.Author.Needs.{needs}
+use denote.Ref.{now}
+use lib.ListN.{take, length, drop, replicate}
+use lib.Seq.{take-at, sets}
 use Rattle.common.specs.Refusals.{firstRefusal}
+use Rattle.numbers.specs.LittleEndian.{leBytes}
+use Rattle.volume.specs.Header.{wordSum}
+use Rattle.volume.specs.HeaderWriter.{checksum, headerBytes, wordsFault, writeRefusals, wordsBytes, headerWith}
 use Rattle.volume.specs.Attributes.{attributesFault}
 use Rattle.volume.specs.BlockMap.{sizeFault}
-use Rattle.volume.specs.HeaderWriter.{wordsFault, writeRefusals, wordsBytes, headerWith}
 use Rattle.volume.proofs.BlockMap.{size-passed}
 use Rattle.volume.proofs.HeaderWriterLaws.{write-refused, write-done, header-stored, checksum-stored, length-header}
-use borrow.Author.Needs.{needs}
 use Rattle.volume.proofs.header_writer.write_header.Statement.{statement}
 use Rattle.volume.proofs.header_writer.write_header.Tie as tie
-use Rattle.volume.proofs.header_writer.write_header.Reads as reads
-use Rattle.volume.proofs.header_writer.write_header.Lts as lts
-use Rattle.numbers.proofs.store.Reads as store-reads
-use Rattle.volume.proofs.attributes.attributes_fault.Reads as attributes-fault-reads
-use Rattle.volume.proofs.block_map.has_zero.Reads as has-zero-reads
-use Rattle.volume.proofs.block_map.size_fault.Reads as size-fault-reads
-use Rattle.volume.proofs.header.word_sum.Reads as word-sum-reads
-use Rattle.volume.proofs.header_writer.store_fields.Reads as store-fields-reads
-use Rattle.volume.proofs.header_writer.store_map.Reads as store-map-reads
 
 -- the GUID is an array of 16 bytes
 guid-length : (c : tie.Start) → length (c .args .guid) ≡ 16
@@ -71,84 +60,65 @@ front-there : (c : tie.After-store-map)
     ≡ headerWith 0 (c .before .before .before .before .before .before .before .before .before .before .before .before .before .before .before .before .args .guid) (c .before .before .before .before .before .before .before .before .before .before .before .before .before .before .before .before .args .len) (c .before .before .before .before .before .before .before .before .before .before .before .before .before .before .before .before .args .attributes) (now (c .before .before .before .before .before .before .before .before .before .before .before .before .before .before .before .before .args .map))
 front-there c = rw (header-there c) (take-at _ _ _ (header-long c 0))
 
--- src/header_writer.rt:29:8
 has-zero-requires : tie.Need-has-zero-requires
 has-zero-requires c κs = search needs
 
--- src/header_writer.rt:30:9
 returns : tie.Need-returns
 unfolding firstRefusal writeRefusals wordsFault
 returns c = write-refused 106 _ _ _ _ _ (simp (sym (c .before .has-zero .ensures) ∙ c .if1 .taken))
 
--- src/header_writer.rt:33:9
 returns-2 : tie.Need-returns-2
 unfolding firstRefusal writeRefusals wordsFault
 returns-2 c = write-refused 106 _ _ _ _ _ (simp (ne-eqb _ _ (c .if2 .taken), or-true))
 
--- src/header_writer.rt:36:8
 size-fault-requires : tie.Need-size-fault-requires
 size-fault-requires c κs = search needs
 
--- src/header_writer.rt:37:9
 returns-3 : tie.Need-returns-3
 unfolding firstRefusal writeRefusals
 returns-3 c = write-refused 107 _ _ _ _ _ (simp (words-ok (c .before .before), sym (c .before .size-fault .ensures) ∙ c .if3 .taken))
 
--- src/header_writer.rt:39:8
 attributes-fault-requires : tie.Need-attributes-fault-requires
 attributes-fault-requires c κs = search needs
 
--- src/header_writer.rt:40:9
 returns-4 : tie.Need-returns-4
 unfolding firstRefusal writeRefusals
 returns-4 c = write-refused 108 _ _ _ _ _ (simp (words-ok (c .before .before .before .before), sized (c .before .before), sym (c .before .attributes-fault .ensures) ∙ c .if4 .taken))
 
--- src/header_writer.rt:42:23
 mul-header : tie.Need-mul-header
 mul-header c = search needs
 
--- src/header_writer.rt:42:18
 add-header : tie.Need-add-header
 add-header c = search needs
 
--- src/header_writer.rt:44:9
 returns-5 : tie.Need-returns-5
 unfolding firstRefusal writeRefusals
 returns-5 c = write-refused 5 _ _ _ _ _ (simp (words-ok (c .before .before .before .before .before), sized (c .before .before .before), allowed (c .before), lt-ltb _ _ (c .if5 .taken)))
 
--- src/header_writer.rt:46:5
 store-fields-requires : tie.Need-store-fields-requires
 store-fields-requires c κs = size-passed _ _ _ (sized (c .before .before .before .before)) .few-entries
 
--- src/header_writer.rt:47:5
 store-map-requires : tie.Need-store-map-requires
 store-map-requires c κs = let z = size-passed _ _ _ (sized (c .before .before .before .before .before .before .before .before)) in let even = c .before .before .before .before .before .before .before .before .before .before .if2 .left in omega arith
 
--- src/header_writer.rt:48:24
 slice-reshare-prefix-word-sum : tie.Need-slice-reshare-prefix-word-sum
 slice-reshare-prefix-word-sum c = search needs
 
--- src/header_writer.rt:48:24
 slice-aggregate-word-sum : tie.Need-slice-aggregate-word-sum
 slice-aggregate-word-sum c = sym (ap length (front-there (c .before .before .before)) ∙ header-long (c .before .before .before) 0)
 
--- src/header_writer.rt:48:15
 word-sum-requires : tie.Need-word-sum-requires
 word-sum-requires c κs = let z = size-passed _ _ _ (sized (c .before .before .before .before .before .before .before .before .before .before .before .before)) in rw (ap length (front-there (c .before .before .before)) ∙ header-long (c .before .before .before) 0) (omega arith)
 
--- src/header_writer.rt:49:34
 sub-store : tie.Need-sub-store
 sub-store c = search needs
 
--- src/header_writer.rt:49:5
 store-requires : tie.Need-store-requires
 store-requires c κs = search needs
 
--- src/header_writer.rt:25:1
 same-length : tie.Need-same-length
 same-length c = search needs
 
--- src/header_writer.rt:25:1
 returns-6 : tie.Need-returns-6
 unfolding headerBytes
 returns-6 c =

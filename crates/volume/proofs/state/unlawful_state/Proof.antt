@@ -1,114 +1,83 @@
+-- `volume::state::unlawful_state` meets its contract: each test is one of rule 111's.
 use Prim.Native.Nat.{_*_, _-_}
-use mathlib.Core.Bool.{not, or-false}
-use mathlib.Core.Path.{ap}
-use lib.ListN.{drop, length-drop}
-use lib.Seq.{take-all}
-use mathlib.Core.Path.{_≡_, sym, _∙_}
-use mathlib.Core.Bool.{or-true}
+use mathlib.Core.Bool.{not, or-false, or-true}
+use mathlib.Core.Path.{ap, _≡_, sym, _∙_}
 use native.Mathlib.Omega.{arith}
-use lib.ListN.{length}
-use lib.Seq.{length-take-le}
+use borrow.Author.Needs.{needs}
+use lib.ListN.{drop, length-drop, length}
+use lib.Seq.{take-all, length-take-le}
 use Rattle.common.specs.Refusals.{any}
 use Rattle.volume.specs.State.{unlawful, mapOf}
 use Rattle.volume.proofs.BlockMap.{too-many-entries}
-use Prim.Native.Nat.{ℕ}
-use borrow.Author.Needs.{needs}
 use Rattle.volume.proofs.state.unlawful_state.Statement.{statement}
 use Rattle.volume.proofs.state.unlawful_state.Tie as tie
-use Rattle.volume.proofs.state.unlawful_state.Reads as reads
-use Rattle.volume.proofs.state.unlawful_state.Lts as lts
-use Rattle.volume.proofs.attributes.attributes_fault.Reads as attributes-fault-reads
-use Rattle.volume.proofs.attributes.base_fault.Reads as base-fault-reads
-use Rattle.volume.proofs.block_map.all_zero.Reads as all-zero-reads
-use Rattle.volume.proofs.block_map.has_zero.Reads as has-zero-reads
-use Rattle.volume.proofs.block_map.size_fault.Reads as size-fault-reads
 
 -- the map is an array of 64 words
 map-length : (c : tie.Start) → length (c .args .st .map) ≡ 64
 map-length c = search needs
 
--- src/state.rt:30:9
 returns : tie.Need-returns
 unfolding unlawful any mapOf
 returns c = rw (too-many-entries _ (mapOf (c .before .before .args .st)) _ (c .if1 .taken), or-true)
 
--- src/state.rt:32:15
 mul-end : tie.Need-mul-end
 mul-end c = search needs
 
--- src/state.rt:33:17
 array-share-prefix-map : tie.Need-array-share-prefix-map
 array-share-prefix-map c = omega (arith, map-length (c .before .before))
 
--- src/state.rt:33:17
 slice-aggregate-has-zero : tie.Need-slice-aggregate-has-zero
 slice-aggregate-has-zero c = sym (length-take-le _ _ (omega (arith, map-length (c .before .before .before))))
 
--- src/state.rt:33:8
 has-zero-requires : tie.Need-has-zero-requires
 has-zero-requires c κs = search needs
 
--- src/state.rt:34:9
 returns-2 : tie.Need-returns-2
 unfolding unlawful any mapOf
 returns-2 c = rw (sym (c .before .has-zero .ensures) ∙ c .if2 .taken)
 
--- src/state.rt:36:22
 array-share-prefix-map-2 : tie.Need-array-share-prefix-map-2
 array-share-prefix-map-2 c = omega (arith, map-length (c .before .before .before .before .before))
 
--- src/state.rt:36:22
 slice-aggregate-size-fault : tie.Need-slice-aggregate-size-fault
 slice-aggregate-size-fault c = sym (length-take-le _ _ (omega (arith, map-length (c .before .before .before .before .before .before))))
 
--- src/state.rt:36:8
 size-fault-requires : tie.Need-size-fault-requires
 size-fault-requires c κs = length-take-le _ _ (omega (arith, map-length (c .before .before .before .before .before .before)))
 
--- src/state.rt:37:9
 returns-3 : tie.Need-returns-3
 unfolding unlawful any mapOf
 returns-3 c = rw (sym (c .before .size-fault .ensures) ∙ c .if3 .taken, or-true)
 
--- src/state.rt:39:8
 attributes-fault-requires : tie.Need-attributes-fault-requires
 attributes-fault-requires c κs = search needs
 
--- src/state.rt:40:9
 returns-4 : tie.Need-returns-4
 unfolding unlawful any mapOf
 returns-4 c = rw (sym (c .before .attributes-fault .ensures) ∙ c .if4 .taken, or-true, or-true)
 
--- src/state.rt:42:8
 base-fault-requires : tie.Need-base-fault-requires
 base-fault-requires c κs = search needs
 
--- src/state.rt:43:9
 returns-5 : tie.Need-returns-5
 unfolding unlawful any mapOf
 returns-5 c = rw (sym (c .before .base-fault .ensures) ∙ c .if5 .taken, or-true, or-true, or-true)
 
--- src/state.rt:45:15
 mul-all-zero : tie.Need-mul-all-zero
 mul-all-zero c = search needs
 
--- src/state.rt:45:15
 sub-all-zero : tie.Need-sub-all-zero
 sub-all-zero c = search needs
 
--- src/state.rt:45:15
 part-all-zero-start : tie.Need-part-all-zero-start
 part-all-zero-start c = search needs
 
--- src/state.rt:45:15
 part-all-zero-end : tie.Need-part-all-zero-end
 part-all-zero-end c = omega (arith, map-length (c .before .before .before .before .before .before .before .before .before .before .before .before .before))
 
--- src/state.rt:45:6
 all-zero-requires : tie.Need-all-zero-requires
 all-zero-requires c κs = search needs
 
--- src/state.rt:24:1
 returns-6 : tie.Need-returns-6
 unfolding unlawful any mapOf
 returns-6 c =
