@@ -31,6 +31,11 @@ then-refused (r ∷ rest) b n e = go (r .test) (then-refused rest b n) e
     go true ih e = e
     go false ih e = ih e
 
+pub front-passed : (a b : List Row) → firstRefusal (a ++ b) ≡ none → firstRefusal a ≡ none
+unfolding firstRefusal
+front-passed [] b e = refl
+front-passed (r ∷ rest) b e = let p = row-passed r (rest ++ b) e in rw (p .0) (front-passed rest b (p .1))
+
 -- where no test of a list holds, its first does not, and none of the others
 pub any-passed : (t : Bool) (rest : List Bool) → any (t ∷ rest) ≡ false → (t ≡ false) × (any rest ≡ false)
 unfolding any

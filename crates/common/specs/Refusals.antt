@@ -18,6 +18,11 @@ unfoldable pub firstRefusal : List Row → Option ℕ
 firstRefusal [] = none
 firstRefusal (r ∷ rest) = let later = firstRefusal rest in cond (r .test) (some (r .number)) later
 
+-- the number of a refusal, 0 where there is none
+unfoldable pub refusalNumber : Option ℕ → ℕ
+refusalNumber none = 0
+refusalNumber (some n) = n
+
 -- some test of a list holds
 unfoldable pub any : List Bool → Bool
 any [] = false

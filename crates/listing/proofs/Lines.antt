@@ -83,3 +83,7 @@ listed-within s room k e = go (ltb (length room) (length (listing s))) refl e
     go : (t : Bool) → ltb (length room) (length (listing s)) ≡ t → listedBy t (listing s) room .answer ≡ Listed.Success k → k ≤ length room
     go true p q = absurd (refused-not-listed 5 k q)
     go false p q = let z : length (listing s) ≡ k = listed-same (length (listing s)) k q in let h = ltb-false (length room) (length (listing s)) p in omega arith
+
+-- and where the room is long enough it is never refused
+pub listed-fits : (s room : List ℕ) (n : ℕ) → length (listing s) ≤ length room → listVolume s room .answer ≡ Listed.Refused n → ⊥
+listed-fits s room n h e = refused-not-listed n (length (listing s)) (sym e ∙ sym (list-done s room h .0))

@@ -1,5 +1,5 @@
 -- The listing of a volume (document 01, "the lister"): its lines, as bytes, and the call that makes them in a room.
-use Prim.Native.Nat.{ℕ, _+_}
+use Prim.Native.Nat.{ℕ, _+_, _*_}
 use mathlib.Core.Bool.{Bool, true, false}
 use mathlib.Core.List.{List, [], _∷_, _++_}
 use lib.Dec.{ltb}
@@ -59,6 +59,15 @@ linesOf (Opening.Refused n) st = refusedLine n
 -- the listing of a volume's bytes, at base 0
 unfoldable pub listing : List ℕ → List ℕ
 listing s = linesOf (openVolume s 0 .answer) (openVolume s 0 .state)
+
+-- the length that no listing of a volume's bytes exceeds: a volume line and 32 map lines, each number of at most 20 digits
+abbrev pub maxListing : ℕ
+maxListing = 70 + 67 * 32
+
+-- document 01's number of the answer, 0 for success
+unfoldable pub listedNumber : Listed → ℕ
+listedNumber (Listed.Success k) = 0
+listedNumber (Listed.Refused n) = n
 
 -- what the call answers, and the room afterwards: the text at the room's start, or 5 where it does not fit and the room as it was
 pub record ListedRoom : Type 0 where

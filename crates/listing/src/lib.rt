@@ -5,10 +5,10 @@
 mod text;
 
 ghost use mathlib.Core.Path.{_≡_};
-ghost use Prim.Native.Nat.{_+_, _≤_, _<_, _^_};
+ghost use Prim.Native.Nat.{_+_, _*_, _≤_, _<_, _^_};
 ghost use lib.ListN.{length};
 ghost use lib.Seq.{sets};
-ghost use Rattle.listing.specs.Listing.{linesOf, listVolume, mapLine, mapLines, volumeLine};
+ghost use Rattle.listing.specs.Listing.{linesOf, listing, listVolume, mapLine, mapLines, maxListing, volumeLine};
 ghost use Rattle.volume.specs.State.{mapOf};
 use text::put_field;
 use text::put_word;
@@ -23,10 +23,12 @@ pub enum Listed {
 }
 
 // Lists a volume at base 0: stores its lines at the start of the room and answers their length. A
-// volume that does not open is listed as refused. Where the room is too short nothing is stored.
+// volume that does not open is listed as refused. Where the room is too short nothing is stored; one of
+// `maxListing` bytes never is.
 pub fn list_volume(volume: &[u8], room: &mut [u8]) -> Listed
     ensures { λ r. ⌜ r ≡ listVolume (now (volume .entry)) (now (room .entry)) .answer ⌝ }
     ensures { λ _. ⌜ now (room .exit) ≡ listVolume (now (volume .entry)) (now (room .entry)) .room ⌝ }
+    ensures { λ _. ⌜ length (listing (now (volume .entry))) ≤ maxListing ⌝ }
 {
     let opened = open_volume(volume, 0);
     let answer = opened.answer;
@@ -41,7 +43,7 @@ pub fn list_volume(volume: &[u8], room: &mut [u8]) -> Listed
 // The lines for what opening answered.
 fn put_lines(room: &mut [u8], answer: Opening, st: State) -> usize
     requires { ⌜ st .entries ≤ 32 ⌝ }
-    ensures { λ r. ⌜ (r ≡ length (linesOf answer st)) × (now (room .exit) ≡ sets (now (room .entry)) 0 (linesOf answer st)) ⌝ }
+    ensures { λ r. ⌜ (r ≡ length (linesOf answer st)) × (now (room .exit) ≡ sets (now (room .entry)) 0 (linesOf answer st)) × (r ≤ maxListing) ⌝ }
 {
     match answer {
         Opening::Refused(n) => {
@@ -70,7 +72,7 @@ fn put_volume_line(room: &mut [u8], len: u64, attributes: u32, entries: usize) -
 // The lines of a map's entries.
 fn put_map_lines(room: &mut [u8], at: usize, st: State) -> usize
     requires { ⌜ (st .entries ≤ 32) × (at ≤ 70) ⌝ }
-    ensures { λ r. ⌜ (r ≡ at + length (mapLines 0 (mapOf st))) × (now (room .exit) ≡ sets (now (room .entry)) at (mapLines 0 (mapOf st))) ⌝ }
+    ensures { λ r. ⌜ (r ≡ at + length (mapLines 0 (mapOf st))) × (now (room .exit) ≡ sets (now (room .entry)) at (mapLines 0 (mapOf st))) × (r ≤ at + 67 * 32) ⌝ }
 {
     let n = st.entries;
     let map = st.map;

@@ -1,6 +1,6 @@
 // Little-endian numbers in byte slices: read at any place, and stored at any place.
 //
-// No function here has a `requires`: a byte past the end reads as 0, and a byte that would lie past
+// No public function here has a `requires`: a byte past the end reads as 0, and a byte that would lie past
 // the end is not stored. The crates above rest on these contracts alone.
 ghost use mathlib.Core.Path.{_≡_};
 ghost use Prim.Native.Nat.{_<_, _≤_, _^_};

@@ -1,21 +1,21 @@
 -- Laws of the header: its fields one at a time, for the loops that read them, and what its refusal tables say.
-use Prim.Native.Nat.{ℕ, zero, suc, _+_, _*_, _%_, _≤_, _<_}
+use Prim.Native.Nat.{ℕ, zero, suc, _+_, _*_, _/_, _%_, _≤_, _<_}
 use mathlib.Core.Path.{_≡_, refl, ap, _∙_}
 use mathlib.Core.Bool.{Bool, true, false, not}
-use mathlib.Core.List.{List, [], _++_}
+use mathlib.Core.List.{List, [], _∷_, _++_}
 use mathlib.Core.Option.{Option, none, some}
 use native.Mathlib.Nat.{add-zero, mul-zero}
 use native.Mathlib.Omega.{arith}
 use borrow.Author.Tests.{ltb-true, ltb-false, eqb-true, not-false}
 use lib.Dec.{eqb, ltb}
-use lib.ListN.{length, getD, drop, drop-of-length-le, List·getD-eq-default}
+use lib.ListN.{length, getD, take, drop, drop-of-length-le, List·getD-eq-default}
 use lib.Seq.{drop-cons}
-use Rattle.common.specs.Refusals.{firstRefusal}
+use Rattle.common.specs.Refusals.{Row, firstRefusal, refusalNumber}
 use Rattle.common.proofs.Refusals.{any-passed, row-passed, then-passed, then-refused}
 use Rattle.common.proofs.Lists.{drop-two}
-use Rattle.numbers.specs.LittleEndian.{le}
-use Rattle.volume.specs.State.{stateOf, zeroState}
-use Rattle.volume.specs.Header.{headerLengthAt, wordsAt, wordSum, stateAt, headerLengthFault, bytesRefusals, fieldsRefusals, answered, stateBeside, openVolume}
+use Rattle.numbers.specs.LittleEndian.{le, leBytes}
+use Rattle.volume.specs.State.{stateWith, stateOf, zeroState}
+use Rattle.volume.specs.Header.{headerLengthAt, wordsAt, wordSum, stateAt, headerLengthFault, openRefusals, openingNumber, answered, stateBeside, openVolume}
 use Rattle.volume.specs.declared.state.State.{State}
 use Rattle.volume.specs.declared.header.Opening.the-variants as Opening
 
@@ -49,7 +49,39 @@ pub wordSum-end : (s : List ℕ) (i : ℕ) → length s ≤ i → wordSum (drop 
 unfolding wordSum
 wordSum-end s i h = rw (drop-of-length-le s {i = i} h)
 
+-- of a string of whole words and another, the sums add up
+pub wordSum-append : (p q : List ℕ) → length p % 2 ≡ 0 → wordSum (p ++ q) ≡ wordSum p + wordSum q
+unfolding wordSum
+wordSum-append [] q h = omega arith
+wordSum-append (a ∷ []) q h = omega arith
+wordSum-append (a ∷ b ∷ p) q h = rw (wordSum-append p q (omega arith)) (omega arith)
+
+-- two bytes in front are one word
+pub wordSum-two : (x : ℕ) (b : List ℕ) → wordSum (leBytes 2 x ++ b) ≡ x % 256 + 256 * (x / 256 % 256) + wordSum b
+unfolding wordSum leBytes
+wordSum-two x b = refl
+
 -- ---- opening
+
+-- the rows 101 to 105 of opening's table, which no state enters, and 106 to 110
+abbrev pub bytesRefusals : List ℕ → List Row
+bytesRefusals s = take 5 (openRefusals s zeroState)
+
+abbrev pub fieldsRefusals : List ℕ → State → List Row
+fieldsRefusals s st = drop 5 (openRefusals s st)
+
+pub rows-split : (s : List ℕ) (st : State) → openRefusals s st ≡ bytesRefusals s ++ fieldsRefusals s st
+unfolding openRefusals
+rows-split s st = refl
+
+-- the number of the answer is that of the first row that applies, 0 where none does
+pub opening-number : (s : List ℕ) (base : ℕ) → openingNumber (openVolume s base .answer) ≡ refusalNumber (firstRefusal (openRefusals s (stateAt s base)))
+unfolding openVolume openingNumber answered refusalNumber
+opening-number s base = go (firstRefusal (openRefusals s (stateAt s base)))
+  where
+    go : (o : Option ℕ) → openingNumber (answered o) ≡ refusalNumber o
+    go none = refl
+    go (some n) = refl
 
 -- an answer says whether a row applied, and which number
 pub answered-success : (o : Option ℕ) → answered o ≡ Opening.Success → o ≡ none
@@ -80,7 +112,7 @@ header-length-passed h lent e =
     (ltb-false h 72 (q .0), ltb-false 320 h (r .0), ltb-false lent h (t .0), eqb-true (h % 8) 0 (not-false _ (p .0)))
 
 pub readable : (s : List ℕ) → firstRefusal (bytesRefusals s) ≡ none → Readable s
-unfolding bytesRefusals
+unfolding openRefusals
 readable s p =
     let r1 = row-passed _ _ p in
     let r2 = row-passed _ _ (r1 .1) in
@@ -91,21 +123,21 @@ readable s p =
 
 -- a readable header's state has at most 32 entries
 pub entries-bound : (s : List ℕ) (base : ℕ) → Readable s → 2 * stateAt s base .entries ≤ 64
-unfolding stateAt stateOf
+unfolding stateAt stateOf stateWith
 entries-bound s base r = omega arith
 
--- opening by its two tables
+-- opening by the two halves of its table
 pub open-early : (s : List ℕ) (base n : ℕ) → answered (firstRefusal (bytesRefusals s)) ≡ Opening.Refused n
     → record { answer = answered (some n); state = zeroState } ≡ openVolume s base
 unfolding openVolume stateBeside
-open-early s base n e = rw (then-refused (bytesRefusals s) (fieldsRefusals s (stateAt s base)) n (answered-refused _ n e))
+open-early s base n e = rw (rows-split s (stateAt s base), then-refused (bytesRefusals s) (fieldsRefusals s (stateAt s base)) n (answered-refused _ n e))
 
 pub open-late : (s : List ℕ) (base n : ℕ) → answered (firstRefusal (bytesRefusals s)) ≡ Opening.Success
     → answered (firstRefusal (fieldsRefusals s (stateAt s base))) ≡ Opening.Refused n
     → record { answer = answered (some n); state = zeroState } ≡ openVolume s base
 unfolding openVolume stateBeside
 open-late s base n p e =
-    rw (then-passed (bytesRefusals s) (fieldsRefusals s (stateAt s base)) (answered-success _ p), answered-refused _ n e)
+    rw (rows-split s (stateAt s base), then-passed (bytesRefusals s) (fieldsRefusals s (stateAt s base)) (answered-success _ p), answered-refused _ n e)
 
 pub open-success : (s : List ℕ) (base : ℕ) → answered (firstRefusal (bytesRefusals s)) ≡ Opening.Success
     → answered (firstRefusal (fieldsRefusals s (stateAt s base))) ≡ Opening.Success
@@ -113,13 +145,14 @@ pub open-success : (s : List ℕ) (base : ℕ) → answered (firstRefusal (bytes
 unfolding openVolume stateBeside answered
 open-success s base p e =
     rw (
+      rows-split s (stateAt s base),
       then-passed (bytesRefusals s) (fieldsRefusals s (stateAt s base)) (answered-success (firstRefusal (bytesRefusals s)) p),
       answered-success (firstRefusal (fieldsRefusals s (stateAt s base))) e,
     )
 
 -- the state that opening answers, also the zero state beside a refusal, has at most 32 entries
 pub opened-entries : (s : List ℕ) (base : ℕ) → openVolume s base .state .entries ≤ 32
-unfolding openVolume stateBeside zeroState
+unfolding openVolume stateBeside zeroState stateOf stateWith
 opened-entries s base = go (firstRefusal (bytesRefusals s)) refl
   where
     st : State
@@ -129,6 +162,6 @@ opened-entries s base = go (firstRefusal (bytesRefusals s)) refl
     kept none r = let b = entries-bound s base r in omega arith
     kept (some n) r = omega arith
 
-    go : (o : Option ℕ) → firstRefusal (bytesRefusals s) ≡ o → stateBeside (firstRefusal (bytesRefusals s ++ fieldsRefusals s st)) st .entries ≤ 32
-    go none p = rw (then-passed (bytesRefusals s) (fieldsRefusals s st) p) (kept (firstRefusal (fieldsRefusals s st)) (readable s p))
-    go (some n) p = rw (then-refused (bytesRefusals s) (fieldsRefusals s st) n p) (omega arith)
+    go : (o : Option ℕ) → firstRefusal (bytesRefusals s) ≡ o → stateBeside (firstRefusal (openRefusals s st)) st .entries ≤ 32
+    go none p = rw (rows-split s (stateAt s base), then-passed (bytesRefusals s) (fieldsRefusals s st) p) (kept (firstRefusal (fieldsRefusals s st)) (readable s p))
+    go (some n) p = rw (rows-split s (stateAt s base), then-refused (bytesRefusals s) (fieldsRefusals s st) n p) (omega arith)

@@ -1,26 +1,26 @@
 -- What opening depends on, and when it succeeds.
 use Prim.Native.Nat.{ℕ, zero, suc, _+_, _-_, _*_, _/_, _%_, _≤_, _<_}
 use mathlib.Core.Path.{_≡_, refl, sym, ap, ap₂, _∙_}
-use mathlib.Core.Bool.{false}
+use mathlib.Core.Bool.{Bool, false, not}
 use mathlib.Core.List.{List, _∷_}
 use mathlib.Core.Option.{Option, none, some}
 use native.Mathlib.Omega.{arith}
-use borrow.Author.Tests.{le-ltb, eq-eqb}
+use borrow.Author.Tests.{le-ltb, eq-eqb, ne-eqb}
 use lib.Dec.{eqb}
 use lib.ListN.{length, getD, take, drop, length-take, length-drop}
 use lib.Seq.{ext-getD, getD-take, getD-drop, take-at}
 use Rattle.common.specs.Refusals.{firstRefusal, any}
-use Rattle.common.proofs.Refusals.{then-refused}
+use Rattle.common.proofs.Refusals.{then-passed, then-refused, front-passed}
 use Rattle.numbers.specs.LittleEndian.{le}
 use Rattle.numbers.proofs.LittleEndian.{le-same}
 use Rattle.volume.specs.Attributes.{attributesFault, baseFault}
 use Rattle.volume.specs.BlockMap.{hasZero, sizeFault}
-use Rattle.volume.specs.State.{stateOf, mapOf}
-use Rattle.volume.specs.Header.{signature, headerLengthAt, wordsAt, wordSum, stateAt, headerLengthFault, mapFault, bytesRefusals, fieldsRefusals, answered, stateBeside, openVolume}
+use Rattle.volume.specs.State.{stateWith, stateOf, zeroState, mapOf}
+use Rattle.volume.specs.Header.{signature, headerLengthAt, wordsAt, wordSum, stateAt, headerLengthFault, mapFault, openRefusals, answered, stateBeside, openVolume}
 use Rattle.volume.specs.declared.state.State.{State}
 use Rattle.volume.specs.declared.header.Opening.the-variants as Opening
 use Rattle.volume.specs.declared.header.Opened.{Opened}
-use Rattle.volume.proofs.HeaderLaws.{length-wordsAt, readable, open-success}
+use Rattle.volume.proofs.HeaderLaws.{bytesRefusals, fieldsRefusals, rows-split, answered-success, length-wordsAt, readable, open-success}
 use Rattle.volume.proofs.BlockMap.{size-passed}
 
 -- two byte strings agree from place a up to place b
@@ -41,20 +41,20 @@ take-same v w n at e h =
     (λ i p. let q : i < n = omega (arith, rw (length-take n (drop at v)) at p) in
     getD-take n (drop at v) i 0 q ∙ getD-drop at v i 0 ∙ h (at + i) (omega arith) (omega arith) ∙ sym (getD-drop at w i 0) ∙ sym (getD-take n (drop at w) i 0 q))
 
--- Opening reads the lent length, the base, bytes 16 to 51, and from byte 55 on the header's; of the zero vector and the reserved bytes
--- it sees only whether the words sum to 0.
-module _ (v w : List ℕ) (base : ℕ) (e : length v ≡ length w) (front : Agree v w 16 52) (least : Agree v w 55 72)
-    (back : Agree v w 55 (headerLengthAt v))
-    (sums : eqb (wordSum (take (headerLengthAt v) v) % 65536) 0 ≡ eqb (wordSum (take (headerLengthAt v) w) % 65536) 0) where
+-- Opening reads the lent length, the base, bytes 16 to 49, and from byte 55 on the header's; of the zero vector, the checksum and the
+-- reserved bytes it sees only whether the words sum to 0.
+module _ (v w : List ℕ) (base : ℕ) (e : length v ≡ length w) (front : Agree v w 16 50) (least : Agree v w 55 72)
+    (back : Agree v w 55 (headerLengthAt v)) where
   pub same-header-length : headerLengthAt v ≡ headerLengthAt w
   same-header-length = le-same 2 v w 48 (λ i p q. front i (omega arith) (omega arith))
 
-  same-bytes : bytesRefusals v ≡ bytesRefusals w
-  unfolding bytesRefusals
-  same-bytes =
+  -- the rows before the sum's
+  same-start : take 4 (openRefusals v zeroState) ≡ take 4 (openRefusals w zeroState)
+  unfolding openRefusals
+  same-start =
       let sign : le 4 v 40 ≡ le 4 w 40 = le-same 4 v w 40 (λ i p q. front i (omega arith) (omega arith)) in
-      let revision : getD v 55 0 ≡ getD w 55 0 = least 55 (omega arith) (omega arith) in
-      rw (e, sign, revision, sums, same-header-length)
+      let revised : getD v 55 0 ≡ getD w 55 0 = least 55 (omega arith) (omega arith) in
+      rw (e, sign, revised, same-header-length)
 
   same-state : stateAt v base ≡ stateAt w base
   unfolding stateAt
@@ -67,22 +67,49 @@ module _ (v w : List ℕ) (base : ℕ) (e : length v ≡ length w) (front : Agre
       rw (guid, len, attributes, map, same-header-length)
 
   same-fields : 72 ≤ headerLengthAt v → (st : State) → fieldsRefusals v st ≡ fieldsRefusals w st
-  unfolding fieldsRefusals mapFault
+  unfolding openRefusals mapFault
   same-fields h st =
-      let closing : le 8 v (headerLengthAt v - 8) ≡ le 8 w (headerLengthAt v - 8) = le-same 8 v w (headerLengthAt v - 8) (λ i p q. back i (omega arith) (omega arith)) in
+      let closing : le 8 v (headerLengthAt v - 8) ≡ le 8 w (headerLengthAt v - 8) =
+      le-same 8 v w (headerLengthAt v - 8) (λ i p q. back i (omega arith) (omega arith)) in
       rw (closing, same-header-length, e)
 
-  pub open-same : openVolume v base ≡ openVolume w base
+  abbrev Zero : List ℕ → Bool
+  Zero s = eqb (wordSum (take (headerLengthAt v) s) % 65536) 0
+
+  same-bytes : Zero v ≡ Zero w → bytesRefusals v ≡ bytesRefusals w
+  unfolding openRefusals
+  same-bytes sums =
+      let sign : le 4 v 40 ≡ le 4 w 40 = le-same 4 v w 40 (λ i p q. front i (omega arith) (omega arith)) in
+      let revised : getD v 55 0 ≡ getD w 55 0 = least 55 (omega arith) (omega arith) in
+      rw (e, sign, revised, sums, same-header-length)
+
+  -- where the sums of both are 0, or of neither, opening answers the same
+  pub open-same : Zero v ≡ Zero w → openVolume v base ≡ openVolume w base
   unfolding openVolume answered stateBeside
-  open-same = go (firstRefusal (bytesRefusals v)) refl
+  open-same sums = go (firstRefusal (bytesRefusals v)) refl
     where
       go : (o : Option ℕ) → firstRefusal (bytesRefusals v) ≡ o → openVolume v base ≡ openVolume w base
       go (some n) p =
           rw (
+            rows-split v (stateAt v base),
+            rows-split w (stateAt w base),
             then-refused (bytesRefusals v) (fieldsRefusals v (stateAt v base)) n p,
-            then-refused (bytesRefusals w) (fieldsRefusals w (stateAt w base)) n (ap firstRefusal (sym same-bytes) ∙ p),
+            then-refused (bytesRefusals w) (fieldsRefusals w (stateAt w base)) n (ap firstRefusal (sym (same-bytes sums)) ∙ p),
           )
-      go none p = rw (same-state, same-bytes, same-fields (readable v p .least))
+      go none p = rw (same-state, rows-split v (stateAt w base), rows-split w (stateAt w base), same-bytes sums, same-fields (readable v p .least))
+
+  -- where the sum of the one is 0 and it opens, and that of the other is not, the other is refused with 105
+  pub sum-decides : openVolume v base .answer ≡ Opening.Success → (wordSum (take (headerLengthAt v) w) % 65536 ≡ 0 → ⊥)
+      → openVolume w base .answer ≡ Opening.Refused 105
+  unfolding openVolume openRefusals firstRefusal answered
+  sum-decides opens off =
+      let passed : firstRefusal (take 4 (openRefusals v zeroState)) ≡ none =
+      front-passed (take 4 (openRefusals v (stateAt v base))) (drop 4 (openRefusals v (stateAt v base)))
+      (answered-success (firstRefusal (openRefusals v (stateAt v base))) opens) in
+      let here : firstRefusal (drop 4 (openRefusals w (stateAt w base))) ≡ some 105 =
+      rw (ne-eqb (wordSum (take (headerLengthAt w) w) % 65536) 0 (λ z. off (rw same-header-length z))) in
+      ap answered
+      (then-passed (take 4 (openRefusals w (stateAt w base))) (drop 4 (openRefusals w (stateAt w base))) (ap firstRefusal (sym same-start) ∙ passed) ∙ here)
 
 -- opening depends on the header's bytes, the lent length and the base only
 pub header-only : (v w : List ℕ) (base : ℕ) → length v ≡ length w → Agree v w 0 72 → Agree v w 0 (headerLengthAt v) → openVolume v base ≡ openVolume w base
@@ -90,14 +117,15 @@ header-only v w base e least whole =
     open-same v w base e (λ i p q. least i (omega arith) (omega arith)) (λ i p q. least i (omega arith) q) (λ i p q. whole i (omega arith) q)
     (ap (λ (l : List ℕ). eqb (wordSum l % 65536) 0) (take-same v w (headerLengthAt v) 0 e (λ i p q. whole i p (omega arith))))
 
--- nonzero reserved bytes and zero vector change nothing but the sum: where the words of both sum to the same, opening answers the same
-pub reserved-ignored : (v w : List ℕ) (base : ℕ) → length v ≡ length w → Agree v w 16 52 → Agree v w 55 72 → Agree v w 55 (headerLengthAt v)
-    → wordSum (take (headerLengthAt v) v) % 65536 ≡ wordSum (take (headerLengthAt v) w) % 65536 → openVolume v base ≡ openVolume w base
-reserved-ignored v w base e front least back sum = open-same v w base e front least back (ap (λ (x : ℕ). eqb x 0) sum)
+-- nonzero reserved bytes and zero vector change nothing but the sum: two byte strings that agree in all else, each with a checksum
+-- that brings its words to 0, open alike; `sum-decides` is the other half
+pub reserved-ignored : (v w : List ℕ) (base : ℕ) → length v ≡ length w → Agree v w 16 50 → Agree v w 55 72 → Agree v w 55 (headerLengthAt v)
+    → wordSum (take (headerLengthAt v) v) % 65536 ≡ 0 → wordSum (take (headerLengthAt v) w) % 65536 ≡ 0 → openVolume v base ≡ openVolume w base
+reserved-ignored v w base e front least back p q = open-same v w base e front least back (rw (p, q))
 
 -- what a volume's bytes must hold to open to these values
 pub record Holds (v guid : List ℕ) (len a n : ℕ) (words : List ℕ) : Type 0 where
-  pub lent : length v ≡ len
+  pub lent : len ≤ length v
   pub signed : le 4 v 40 ≡ signature
   pub revised : getD v 55 0 ≡ 1
   pub header : headerLengthAt v ≡ 64 + 8 * n
@@ -114,7 +142,7 @@ header-length-good h lent a b d e = rw (eq-eqb (h % 8) 0 a, le-ltb h 72 b, le-lt
 
 -- the map of a state made of n entries' words
 pub mapOf-stateOf : (guid : List ℕ) (len a base n : ℕ) (words : List ℕ) → length words ≡ 2 * n → mapOf (stateOf guid len a base n words) ≡ words
-unfolding mapOf stateOf
+unfolding mapOf stateOf stateWith
 mapOf-stateOf guid len a base n words e = take-at words _ (2 * n) e
 
 -- such a volume opens to them, where they keep 106 to 108 and 110
@@ -128,7 +156,7 @@ module _ (v guid : List ℕ) (len a n : ℕ) (words : List ℕ) (base : ℕ) (h 
       rw (h .guid-there, h .length-there, h .attributes-there, h .header, z, h .map-there)
 
   bytes-pass : answered (firstRefusal (bytesRefusals v)) ≡ Opening.Success
-  unfolding answered firstRefusal bytesRefusals
+  unfolding answered firstRefusal openRefusals
   bytes-pass =
       let z = size-passed n words len size in
       let lent = h .lent in
@@ -136,7 +164,7 @@ module _ (v guid : List ℕ) (len a n : ℕ) (words : List ℕ) (base : ℕ) (h 
       rw (le-ltb (length v) 72 (omega arith), h .signed, h .revised, h .header, good, h .summed)
 
   fields-pass : answered (firstRefusal (fieldsRefusals v (stateOf guid len a base n words))) ≡ Opening.Success
-  unfolding answered firstRefusal fieldsRefusals mapFault stateOf
+  unfolding answered firstRefusal openRefusals mapFault stateOf stateWith
   fields-pass =
       let two : length words ≡ 2 * n = ap length (sym (h .map-there)) ∙ length-wordsAt (2 * n) v 56 in
       let lent = h .lent in

@@ -1,6 +1,6 @@
 -- The round trip: a written header's words sum to 0 modulo 65,536, and a volume that starts with it opens to what was written.
-use Prim.Native.Nat.{ℕ, suc, _+_, _-_, _*_, _/_, _%_, _<_, _^_}
-use mathlib.Core.Path.{_≡_, refl, sym, ap, ap₂, _∙_}
+use Prim.Native.Nat.{ℕ, suc, _+_, _-_, _*_, _/_, _%_, _≤_, _<_, _^_}
+use mathlib.Core.Path.{_≡_, refl, sym, ap, ap₂, subst, _∙_}
 use mathlib.Core.Bool.{Bool, true, false, not, _||_, true≢false}
 use mathlib.Core.List.{List, [], _∷_, _++_, append-assoc}
 use mathlib.Core.Option.{Option, none, some}
@@ -21,22 +21,11 @@ use Rattle.volume.specs.HeaderWriter.{pairs, wordsBytes, headerFront, he
 use Rattle.volume.specs.declared.header.Opening.the-variants as Opening
 use Rattle.volume.specs.declared.header_writer.Written.the-variants as Written
 use Rattle.volume.proofs.BlockMap.{Sized, size-passed}
+use Rattle.volume.proofs.HeaderLaws.{wordSum-append, wordSum-two}
 use Rattle.volume.proofs.HeaderWriterLaws.{length-wordsBytes, length-front, length-header}
 use Rattle.volume.proofs.Opening.{Holds, opens}
 
 -- ---- the sum
-
--- of a string of whole words and another, the sums add up
-wordSum-append : (p q : List ℕ) → length p % 2 ≡ 0 → wordSum (p ++ q) ≡ wordSum p + wordSum q
-unfolding wordSum
-wordSum-append [] q h = omega arith
-wordSum-append (a ∷ []) q h = omega arith
-wordSum-append (a ∷ b ∷ p) q h = rw (wordSum-append p q (omega arith)) (omega arith)
-
--- a number below 65,536 in front is one word
-wordSum-two : (x : ℕ) (b : List ℕ) → wordSum (leBytes 2 x ++ b) ≡ x % 256 + 256 * (x / 256 % 256) + wordSum b
-unfolding wordSum leBytes
-wordSum-two x b = refl
 
 -- the words of a header with some checksum sum to those of the header with 0 and the checksum
 wordSum-header : (c : ℕ) (guid : List ℕ) (len a : ℕ) (words : List ℕ) → length guid ≡ 16 → c < 65536
@@ -206,7 +195,7 @@ module _ (guid : List ℕ) (len a : ℕ) (words rest : List ℕ) (c : ℕ) (g : 
   unfolding v n
   sum-read = rw (take-at (headerWith c guid len a words) rest (64 + 8 * n) (length-header c guid len a words g even)) sum
 
-  pub holds : length (headerWith c guid len a words ++ rest) ≡ len → Holds (headerWith c guid len a words ++ rest) guid len a (length words / 2) words
+  pub holds : len ≤ length (headerWith c guid len a words ++ rest) → Holds (headerWith c guid len a words ++ rest) guid len a (length words / 2) words
   unfolding v n
   holds lent =
       record {
@@ -251,7 +240,7 @@ accepted len a words room p =
 
 -- a volume that starts with the header opens
 from-header : (guid : List ℕ) (len a : ℕ) (words : List ℕ) → length guid ≡ 16 → a < 2 ^ 32 → ((i : ℕ) → getD words i 0 < 2 ^ 32) → Accepted len a words
-    → (rest : List ℕ) → length (headerBytes guid len a words ++ rest) ≡ len → (base : ℕ) → baseFault a base ≡ false
+    → (rest : List ℕ) → len ≤ length (headerBytes guid len a words ++ rest) → (base : ℕ) → baseFault a base ≡ false
     → openVolume (headerBytes guid len a words ++ rest) base ≡ record { answer = Opening.Success; state = stateOf guid len a base (pairs words) words }
 unfolding headerBytes
 from-header guid len a words g small below ok rest lent base mapped =
@@ -260,11 +249,11 @@ from-header guid len a words g small below ok rest lent base mapped =
     (holds guid len a words rest c g (ok .even) small below (size-passed (length words / 2) words len (ok .size)) (sum-zero guid len a words g) lent)
     (ok .nonzero) (ok .size) (ok .attributes) mapped
 
--- For every argument that writing accepts (a GUID of 16 bytes, 32-bit attributes and words), every volume of that length that starts
--- with the written header opens, at every base that 110 allows, to the same GUID, length, attributes, map and that base.
+-- For every argument that writing accepts (a GUID of 16 bytes, 32-bit attributes and words), every volume of that length
+-- (or lent with more bytes after it) that starts with the written header opens, at every base that 110 allows, to the same GUID, length, attributes, map and that base.
 pub round-trip : (guid : List ℕ) (len a : ℕ) (words room : List ℕ) → length guid ≡ 16 → a < 2 ^ 32 → ((i : ℕ) → getD words i 0 < 2 ^ 32)
     → (k : ℕ) → writeHeader guid len a words room .answer ≡ Written.Success k
-    → (v : List ℕ) → length v ≡ len → take k v ≡ take k (writeHeader guid len a words room .room)
+    → (v : List ℕ) → len ≤ length v → take k v ≡ take k (writeHeader guid len a words room .room)
     → (base : ℕ) → baseFault a base ≡ false
     → openVolume v base ≡ record { answer = Opening.Success; state = stateOf guid len a base (pairs words) words }
 unfolding writeHeader writtenBy
@@ -281,4 +270,19 @@ round-trip guid len a words room g small below k wrote v lent starts base mapped
         let e : length header ≡ k = cc in
         let whole : v ≡ header ++ drop k v =
         sym (take-append-drop k v) ∙ ap (λ (l : List ℕ). l ++ drop k v) (t ∙ take-at header (drop (length header) room) k e) in
-        rw whole (from-header guid len a words g small below (accepted len a words (length room) p) (drop k v) (ap length (sym whole) ∙ lent) base mapped)
+        rw whole (from-header guid len a words g small below (accepted len a words (length room) p) (drop k v) (subst (λ (l : List ℕ). len ≤ length l) whole lent) base mapped)
+
+-- the words of a header that was written sum to 0 modulo 65,536
+pub written-sum-zero : (guid : List ℕ) (len a : ℕ) (words room : List ℕ) → length guid ≡ 16 → (k : ℕ)
+    → writeHeader guid len a words room .answer ≡ Written.Success k → wordSum (take k (writeHeader guid len a words room .room)) % 65536 ≡ 0
+unfolding writeHeader writtenBy
+written-sum-zero guid len a words room g k wrote = go (firstRefusal (writeRefusals len a words (length room))) wrote
+  where
+    header : List ℕ
+    header = headerBytes guid len a words
+
+    go : (o : Option ℕ) → writtenBy o header room .answer ≡ Written.Success k → wordSum (take k (writtenBy o header room .room)) % 65536 ≡ 0
+    go (some m) w = let z : _≡_ {A = ℕ} 0 1 = cc in absurd (omega arith)
+    go none w =
+        let e : length header ≡ k = cc in
+        rw (take-at header (drop (length header) room) k e) (sum-zero guid len a words g)

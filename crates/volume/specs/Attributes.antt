@@ -1,8 +1,8 @@
--- Volume attributes (document 01, Header: Attributes; 000's FVB_ATTRIBUTES). Document 01 calls those that a call reads and sets the
+-- Volume attributes (document 01, Header: Attributes; 000's EFI_FVB_ATTRIBUTES). Document 01 calls those that a call reads and sets the
 -- settings.
 use Prim.Native.Nat.{ℕ, _/_, _%_}
 use mathlib.Core.Bool.{Bool, not, _&&_}
-use mathlib.Core.List.{List, [], _∷_}
+use mathlib.Core.List.{List, [], _∷_, _++_, map}
 use lib.Dec.{eqb}
 use Rattle.common.specs.Refusals.{any}
 
@@ -11,21 +11,21 @@ abbrev pub flag : ℕ → ℕ → Bool
 flag a bit = eqb (a / bit % 2) 1
 
 -- 1 read may be disabled; 2 read may be enabled; 4 read is enabled
-abbrev pub readDisableCap : ℕ
-readDisableCap = 0x1
+abbrev pub readDisabledCap : ℕ
+readDisabledCap = 0x1
 
-abbrev pub readEnableCap : ℕ
-readEnableCap = 0x2
+abbrev pub readEnabledCap : ℕ
+readEnabledCap = 0x2
 
 abbrev pub readStatus : ℕ
 readStatus = 0x4
 
 -- 8, 0x10, 0x20 the same for write
-abbrev pub writeDisableCap : ℕ
-writeDisableCap = 0x8
+abbrev pub writeDisabledCap : ℕ
+writeDisabledCap = 0x8
 
-abbrev pub writeEnableCap : ℕ
-writeEnableCap = 0x10
+abbrev pub writeEnabledCap : ℕ
+writeEnabledCap = 0x10
 
 abbrev pub writeStatus : ℕ
 writeStatus = 0x20
@@ -55,10 +55,13 @@ alignmentCap = 0x8000
 abbrev pub alignments : ℕ → ℕ
 alignments a = a / 0x10000
 
--- 108: others (0x100, 0x1000, 0x2000, 0x4000) must be zero, and without 0x8000 all alignment bits too
+-- "others (0x100, 0x1000, 0x2000, 0x4000) must be zero"
+abbrev pub mustBeZero : List ℕ
+mustBeZero = 0x100 ∷ 0x1000 ∷ 0x2000 ∷ 0x4000 ∷ []
+
+-- 108: a bit that must be zero is set, or an alignment bit without 0x8000
 unfoldable pub attributesFault : ℕ → Bool
-attributesFault a =
-    any (flag a 0x100 ∷ flag a 0x1000 ∷ flag a 0x2000 ∷ flag a 0x4000 ∷ (not (flag a alignmentCap) && not (eqb (alignments a) 0)) ∷ [])
+attributesFault a = any (map (flag a) mustBeZero ++ ((not (flag a alignmentCap) && not (eqb (alignments a) 0)) ∷ []))
 
 -- 110: memory mapped and base not a multiple of 8
 unfoldable pub baseFault : ℕ → ℕ → Bool

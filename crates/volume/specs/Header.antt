@@ -2,12 +2,12 @@
 -- "Lent" bytes are the caller's slice. Reserved bytes (52..54) and the zero vector (0..15) are read by nothing but the word sum.
 use Prim.Native.Nat.{ℕ, zero, suc, _+_, _-_, _*_, _/_, _%_}
 use mathlib.Core.Bool.{Bool, not, _||_}
-use mathlib.Core.List.{List, [], _∷_, _++_}
+use mathlib.Core.List.{List, [], _∷_}
 use mathlib.Core.Option.{Option, none, some}
 use lib.Dec.{eqb, ltb}
-use lib.ListN.{length, getD, take, drop, replicate}
+use lib.ListN.{length, getD, take, drop}
 use Rattle.common.specs.Refusals.{Row, row, firstRefusal, any}
-use Rattle.numbers.specs.LittleEndian.{le, leBytes}
+use Rattle.numbers.specs.LittleEndian.{le}
 use Rattle.volume.specs.Attributes.{attributesFault, baseFault}
 use Rattle.volume.specs.BlockMap.{headerLength, maxEntries, hasZero, sizeFault}
 use Rattle.volume.specs.State.{stateOf, zeroState, mapOf}
@@ -21,6 +21,10 @@ use Rattle.volume.specs.declared.header.Opened.{Opened}
 -- bytes 40..43: signature 5F 46 56 48, "_FVH"
 abbrev pub signature : ℕ
 signature = 0x4856465F
+
+-- byte 55: revision, 1
+abbrev pub revision : ℕ
+revision = 1
 
 -- the fewest bytes of a header: one map entry and the closing pair
 abbrev pub minHeader : ℕ
@@ -61,19 +65,15 @@ headerLengthFault h lent = any (not (eqb (h % 8) 0) ∷ ltb h minHeader ∷ ltb 
 unfoldable pub mapFault : List ℕ → State → Bool
 mapFault s st = hasZero (mapOf st) || not (eqb (le 8 s (headerLengthAt s - 8)) 0)
 
--- the refusals of opening, in order: 101 to 105, of the bytes, and 106 to 110, of what the state would be
-unfoldable pub bytesRefusals : List ℕ → List Row
-bytesRefusals s =
+-- the refusals of opening, in order; `st` is what the state would be
+unfoldable pub openRefusals : List ℕ → State → List Row
+openRefusals s st =
     row (ltb (length s) minHeader) 101
     ∷ row (not (eqb (le 4 s 40) signature)) 102
-    ∷ row (not (eqb (getD s 55 0) 1)) 103
+    ∷ row (not (eqb (getD s 55 0) revision)) 103
     ∷ row (headerLengthFault (headerLengthAt s) (length s)) 104
     ∷ row (not (eqb (wordSum (take (headerLengthAt s) s) % 65536) 0)) 105
-    ∷ []
-
-unfoldable pub fieldsRefusals : List ℕ → State → List Row
-fieldsRefusals s st =
-    row (mapFault s st) 106
+    ∷ row (mapFault s st) 106
     ∷ row (sizeFault (st .entries) (mapOf st) (st .length)) 107
     ∷ row (attributesFault (st .attributes)) 108
     ∷ row (ltb (length s) (st .length)) 109
@@ -85,6 +85,11 @@ unfoldable pub answered : Option ℕ → Opening
 answered none = Opening.Success
 answered (some n) = Opening.Refused n
 
+-- document 01's number of the answer, 0 for success
+unfoldable pub openingNumber : Opening → ℕ
+openingNumber Opening.Success = 0
+openingNumber (Opening.Refused n) = n
+
 -- the state beside it: on a refusal the zero state
 unfoldable pub stateBeside : Option ℕ → State → State
 stateBeside none st = st
@@ -93,5 +98,6 @@ stateBeside (some n) st = zeroState
 -- opening: the lent bytes and a base address
 unfoldable pub openVolume : List ℕ → ℕ → Opened
 openVolume s base =
-    let refusal = firstRefusal (bytesRefusals s ++ fieldsRefusals s (stateAt s base)) in
-    record { answer = answered refusal; state = stateBeside refusal (stateAt s base) }
+    let st = stateAt s base in
+    let refusal = firstRefusal (openRefusals s st) in
+    record { answer = answered refusal; state = stateBeside refusal st }

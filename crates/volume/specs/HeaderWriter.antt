@@ -1,6 +1,6 @@
 -- Writing a volume header (document 01: "writing a header takes GUID, length, attributes and the map words without the closing pair. It
 -- stores exactly the header, its checksum worked out, at the start of the room and answers its length").
-use Prim.Native.Nat.{ℕ, _+_, _-_, _*_, _/_, _%_}
+use Prim.Native.Nat.{ℕ, _-_, _/_, _%_}
 use mathlib.Core.Bool.{Bool, not, _||_}
 use mathlib.Core.List.{List, [], _∷_, _++_}
 use mathlib.Core.Option.{Option, none, some}
@@ -10,7 +10,7 @@ use Rattle.common.specs.Refusals.{Row, row, firstRefusal}
 use Rattle.numbers.specs.LittleEndian.{leBytes}
 use Rattle.volume.specs.Attributes.{attributesFault}
 use Rattle.volume.specs.BlockMap.{headerLength, hasZero, sizeFault}
-use Rattle.volume.specs.Header.{signature, wordSum}
+use Rattle.volume.specs.Header.{signature, revision, wordSum}
 use Rattle.volume.specs.declared.header_writer.Written.{Written}
 use Rattle.volume.specs.declared.header_writer.Written.the-variants as Written
 
@@ -30,12 +30,12 @@ headerFront guid len attributes n =
 
 -- bytes 52..55: reserved, as zeros, and the revision
 abbrev pub reservedAndRevision : List ℕ
-reservedAndRevision = 0 ∷ 0 ∷ 0 ∷ 1 ∷ []
+reservedAndRevision = 0 ∷ 0 ∷ 0 ∷ revision ∷ []
 
 -- a header with this checksum; the map is ended by a pair of zeros
 unfoldable pub headerWith : ℕ → List ℕ → ℕ → ℕ → List ℕ → List ℕ
-headerWith sum guid len attributes words =
-    headerFront guid len attributes (pairs words) ++ (leBytes 2 sum ++ (reservedAndRevision ++ (wordsBytes words ++ replicate 8 0)))
+headerWith check guid len attributes words =
+    headerFront guid len attributes (pairs words) ++ (leBytes 2 check ++ (reservedAndRevision ++ (wordsBytes words ++ replicate 8 0)))
 
 -- the checksum that brings a sum of 16-bit words to 0 modulo 65,536
 abbrev pub checksum : ℕ → ℕ
@@ -62,6 +62,11 @@ writeRefusals len attributes words room =
 pub record HeaderWritten : Type 0 where
   pub answer : Written
   pub room : List ℕ
+
+-- document 01's number of the answer, 0 for success
+unfoldable pub writtenNumber : Written → ℕ
+writtenNumber (Written.Success k) = 0
+writtenNumber (Written.Refused n) = n
 
 -- the header at the start of the room, or the number alone and the room as it was
 unfoldable pub writtenBy : Option ℕ → List ℕ → List ℕ → HeaderWritten

@@ -8,14 +8,18 @@ use Rattle.volume.specs.Attributes.{attributesFault, baseFault}
 use Rattle.volume.specs.BlockMap.{hasZero, sizeFault, allZero}
 use Rattle.volume.specs.declared.state.State.{State}
 
--- a state from its parts: the map words go first in `map`, and zeros fill the rest of its 64 words
+-- a state from its parts, its map as the 64 words that it holds
+unfoldable pub stateWith : List ℕ → ℕ → ℕ → ℕ → ℕ → List ℕ → State
+stateWith guid len attributes base n map =
+    record { guid = guid; length = len; attributes = attributes; base = base; entries = n; map = map }
+
+-- a state from its parts and the words of its n map entries, and zeros beyond them
 unfoldable pub stateOf : List ℕ → ℕ → ℕ → ℕ → ℕ → List ℕ → State
-stateOf guid len attributes base n words =
-    record { guid = guid; length = len; attributes = attributes; base = base; entries = n; map = words ++ replicate (64 - 2 * n) 0 }
+stateOf guid len attributes base n words = stateWith guid len attributes base n (words ++ replicate (64 - 2 * n) 0)
 
 -- the zero state, which stands beside a refusal of opening
 unfoldable pub zeroState : State
-zeroState = record { guid = replicate 16 0; length = 0; attributes = 0; base = 0; entries = 0; map = replicate 64 0 }
+zeroState = stateOf (replicate 16 0) 0 0 0 0 []
 
 -- the block map of a state: the words of its entries
 unfoldable pub mapOf : State → List ℕ

@@ -2,15 +2,15 @@
 ghost use mathlib.Core.Path.{_≡_};
 ghost use Rattle.volume.specs.Attributes.{attributesFault, baseFault};
 
-pub const READ_DISABLE_CAP: u32 = 0x1;
+pub const READ_DISABLED_CAP: u32 = 0x1;
 
-pub const READ_ENABLE_CAP: u32 = 0x2;
+pub const READ_ENABLED_CAP: u32 = 0x2;
 
 pub const READ_STATUS: u32 = 0x4;
 
-pub const WRITE_DISABLE_CAP: u32 = 0x8;
+pub const WRITE_DISABLED_CAP: u32 = 0x8;
 
-pub const WRITE_ENABLE_CAP: u32 = 0x10;
+pub const WRITE_ENABLED_CAP: u32 = 0x10;
 
 pub const WRITE_STATUS: u32 = 0x20;
 

@@ -5,13 +5,14 @@ ghost use mathlib.Core.Option.{some};
 ghost use Prim.Native.Nat.{_-_, _*_, _≤_};
 ghost use lib.ListN.{length, take, drop, replicate};
 ghost use Rattle.common.specs.Refusals.{firstRefusal};
-ghost use Rattle.volume.specs.Header.{answered, bytesRefusals, fieldsRefusals, headerLengthAt, headerLengthFault, mapFault, openVolume, stateAt, wordSum, wordsAt};
+ghost use Rattle.volume.specs.Header.{answered, headerLengthAt, headerLengthFault, openRefusals, openVolume, stateAt, wordSum, wordsAt};
 ghost use Rattle.volume.specs.State.{zeroState};
 use crate::attributes::attributes_fault;
 use crate::attributes::base_fault;
 use crate::block_map::has_zero;
 use crate::block_map::size_fault;
 use crate::state::State;
+use crate::state::state_with;
 
 // "_FVH", as the little-endian number of its bytes.
 pub const SIGNATURE: u32 = 0x4856465F;
@@ -29,7 +30,7 @@ pub struct Opened {
 }
 
 // Opens a volume: answers the state that its header and the base address give, or the first of 101 to
-// 110 that applies. Only the header is read, once.
+// 110 that applies. Only the header is read.
 pub fn open_volume(volume: &[u8], base: u64) -> Opened
     ensures { λ r. ⌜ r ≡ openVolume (now (volume .entry)) base ⌝ }
 {
@@ -54,20 +55,13 @@ fn refused(n: u16) -> Opened
 {
     Opened {
         answer: Opening::Refused(n),
-        state: State {
-            guid: [0; 16],
-            length: 0,
-            attributes: 0,
-            base: 0,
-            entries: 0,
-            map: [0; 64],
-        },
+        state: state_with([0; 16], 0, 0, 0, 0, [0; 64]),
     }
 }
 
-// The refusals 101 to 105, of the bytes.
+// The table's first five rows, 101 to 105, which need no state.
 fn bytes_refusal(s: &[u8]) -> Opening
-    ensures { λ r. ⌜ r ≡ answered (firstRefusal (bytesRefusals (now (s .entry)))) ⌝ }
+    ensures { λ r. ⌜ r ≡ answered (firstRefusal (take 5 (openRefusals (now (s .entry)) zeroState))) ⌝ }
 {
     if s.len() < 72 {
         return Opening::Refused(101);
@@ -88,10 +82,10 @@ fn bytes_refusal(s: &[u8]) -> Opening
     Opening::Success
 }
 
-// The refusals 106 to 110, of what the state would be.
+// The table's other rows, 106 to 110, with what the state would be.
 fn fields_refusal(s: &[u8], st: State) -> Opening
     requires { ⌜ (2 * st .entries ≤ 64) × (8 ≤ headerLengthAt (now s)) ⌝ }
-    ensures { λ r. ⌜ r ≡ answered (firstRefusal (fieldsRefusals (now (s .entry)) st)) ⌝ }
+    ensures { λ r. ⌜ r ≡ answered (firstRefusal (drop 5 (openRefusals (now (s .entry)) st))) ⌝ }
 {
     let n = st.entries;
     let map = st.map;
@@ -156,14 +150,14 @@ fn state_at(s: &[u8], base: u64) -> State
     let entries = (numbers::u16_at(s, 48) as usize - 64) / 8;
     let guid = guid_at(s);
     let map = map_at(s, entries);
-    State {
+    state_with(
         guid,
-        length: numbers::u64_at(s, 32),
-        attributes: numbers::u32_at(s, 44),
+        numbers::u64_at(s, 32),
+        numbers::u32_at(s, 44),
         base,
         entries,
         map,
-    }
+    )
 }
 
 // The file system GUID, bytes 16 to 31.

@@ -1,7 +1,7 @@
 // Framework firmware volumes (version 0.9): opening and writing a header, and the block service,
 // over volume bytes that the caller lends.
 //
-// Every function answers every input and has no `requires`. A refusal carries document 01's number,
+// Every public function answers every input and has no `requires`. A refusal carries document 01's number,
 // and changes no lent byte and no state.
 pub mod attributes;
 pub mod block_map;

@@ -1,6 +1,6 @@
 // The state that opening answers and that every later call follows.
 ghost use mathlib.Core.Path.{_≡_};
-ghost use Rattle.volume.specs.State.{unlawful};
+ghost use Rattle.volume.specs.State.{stateWith, unlawful};
 use crate::attributes::attributes_fault;
 use crate::attributes::base_fault;
 use crate::block_map::MAX_ENTRIES;
@@ -18,6 +18,27 @@ pub struct State {
     pub base: u64,
     pub entries: usize,
     pub map: [u32; 64],
+}
+
+// A state from its parts.
+pub(crate) fn state_with(
+    guid: [u8; 16],
+    length: u64,
+    attributes: u32,
+    base: u64,
+    entries: usize,
+    map: [u32; 64],
+) -> State
+    ensures { λ r. ⌜ r ≡ stateWith guid length attributes base entries map ⌝ }
+{
+    State {
+        guid,
+        length,
+        attributes,
+        base,
+        entries,
+        map,
+    }
 }
 
 // Whether a state breaks rule 111: 106, 107, 108 or 110, or a nonzero word beyond its entries.

@@ -1,10 +1,12 @@
--- `lister::main` meets its contract: the text lies in the room that was lent.
+-- `lister::main` meets its contract: the text lies in the room that was lent, and the room holds every listing.
 use Prim.Native.Nat.{_≤_}
 use mathlib.Core.Path.{sym, _∙_}
+use native.Mathlib.Nat.{le-trans}
 use borrow.Author.Needs.{needs}
+use lib.Dec.{lit≤}
 use lib.ListN.{length}
 use lib.Seq.{length-take-le}
-use Rattle.listing.proofs.Lines.{listed-within}
+use Rattle.listing.proofs.Lines.{listed-fits, listed-within}
 use Rattle.lister.proofs.main.Statement.{statement}
 use Rattle.lister.proofs.main.Tie as tie
 
@@ -48,6 +50,11 @@ write-all-requires c κs = search needs
 enum-told : tie.Need-enum-told
 enum-told c = search needs
 
+expect-requires : tie.Need-expect-requires
+expect-requires c κs =
+    let l = c .before .before .before .list-volume in
+    absurd (listed-fits _ _ _ (le-trans (l .ensures .1 .1) (lit≤ tt)) (sym (l .ensures .0) ∙ c .enum-told .given .1))
+
 returns : tie.Need-returns
 returns c = search needs
 
@@ -70,5 +77,6 @@ main-spec =
     slice-aggregate-write-all
     write-all-requires
     enum-told
+    expect-requires
     returns
     returns-2)

@@ -8,7 +8,7 @@ use denote.Ref.{now}
 use lib.Seq.{sets}
 use lib.ListN.{length}
 use Rattle.common.proofs.Lists.{sets-past}
-use Rattle.listing.specs.Listing.{linesOf, listing}
+use Rattle.listing.specs.Listing.{maxListing, linesOf, listing}
 use Rattle.listing.specs.declared.Listed.the-variants as Listed
 use Rattle.volume.proofs.HeaderLaws.{opened-entries}
 use Rattle.listing.proofs.Lines.{list-refused, list-done}
@@ -26,6 +26,9 @@ measured c = c .put-lines .ensures .0 ∙ rw (c .before .before .before .open-vo
 
 nothing-stored : (c : tie.After-put-lines) → c .put-lines .last .0 ≡ []
 nothing-stored c = let r = c .before .before .before .open-volume .result in c .put-lines .ensures .1 ∙ sets-past (linesOf (r .answer) (r .state)) [] 0 (omega arith)
+
+short : (c : tie.After-put-lines) → length (listing (now (c .before .before .before .before .before .before .args .volume))) ≤ maxListing
+short c = let m = measured c in let b = c .put-lines .ensures .2 in omega arith
 
 open-volume-requires : tie.Need-open-volume-requires
 open-volume-requires c κs = search needs
@@ -47,7 +50,7 @@ returns c =
     let a = c .before .before .before .before .before .before .before .before .before .args in
     let m = measured (c .before .before .before) in
     let r = list-refused (now (a .volume)) (now (a .room)) (omega arith) in
-    (r .0, ap (λ (l : List ℕ). l ++ now (a .room)) (nothing-stored (c .before .before .before)) ∙ r .1)
+    (r .0, (ap (λ (l : List ℕ). l ++ now (a .room)) (nothing-stored (c .before .before .before)) ∙ r .1, short (c .before .before .before)))
 
 put-lines-requires-2 : tie.Need-put-lines-requires-2
 put-lines-requires-2 c κs = few (c .before .before .before .before .before .before .before)
@@ -62,7 +65,7 @@ returns-2 c =
     let m = measured (c .before .before .before .before .before .before .before) in
     let p = rw (c .before .before .before .before .before .before .before .before .before .before .open-volume .ensures) at (c .before .before .put-lines2 .ensures) in
     let d = list-done (now (a .volume)) (now (a .room)) (omega arith) in
-    (ap Listed.Success (p .0) ∙ d .0, p .1 ∙ ap (λ (l : List ℕ). sets (l ++ now (a .room)) 0 (listing (now (a .volume)))) (nothing-stored (c .before .before .before .before .before .before .before)) ∙ d .1)
+    (ap Listed.Success (p .0) ∙ d .0, (p .1 ∙ ap (λ (l : List ℕ). sets (l ++ now (a .room)) 0 (listing (now (a .volume)))) (nothing-stored (c .before .before .before .before .before .before .before)) ∙ d .1, short (c .before .before .before .before .before .before .before)))
 
 pub list-volume-spec : {M : Type 1} → statement M
 list-volume-spec =

@@ -53,7 +53,7 @@ returns c =
     let f = c .before .before .before .before .before .before .before .put-field .ensures in
     let e = c .before .before .put-word2 .ensures in
     let total = length-append (field (x .0 .0)) (lineFeed ∷ []) in
-    rw (x .1) (omega arith, e .1 ∙ rw (f .1, w .1) (short-line-put refusedWord (field (x .0 .0)) (lineFeed ∷ []) (now (a .room)) 0 _ _ (w .0) (f .0)))
+    rw (x .1) (omega arith, e .1 ∙ rw (f .1, w .1) (short-line-put refusedWord (field (x .0 .0)) (lineFeed ∷ []) (now (a .room)) 0 _ _ (w .0) (f .0)), omega arith)
 
 same-length-2 : tie.Need-same-length-2
 same-length-2 c = search needs
@@ -68,7 +68,7 @@ returns-2 c =
     let line = volumeLine (a .st .length) (a .st .attributes) (a .st .entries) in
     let lines = mapLines 0 (mapOf (a .st)) in
     let total = length-append line lines in
-    rw e (omega arith, m .1 ∙ rw (v .1) (sym (sets-then line lines (now (a .room)) 0 (c .before .before .before .before .before .before .put-volume-line .result) (omega arith))))
+    rw e (omega arith, m .1 ∙ rw (v .1) (sym (sets-then line lines (now (a .room)) 0 (c .before .before .before .before .before .before .put-volume-line .result) (omega arith))), omega arith)
 
 pub put-lines-spec : {M : Type 1} → statement M
 put-lines-spec =

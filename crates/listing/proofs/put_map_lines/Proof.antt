@@ -106,7 +106,7 @@ returns c =
     let long : length w ≡ 2 * n = length-take-le (2 * n) (a .st .map) (omega (arith, map-length (c .before .before .before .before), c .before .before .before .before .pre)) in
     let none = map-end w (l .first) (l .i) (omega arith) in
     let zero = ap length none in
-    (omega arith, sym (l .inv .5 ∙ ap (λ (x : List ℕ). sets (l .room) (l .end) x) none))
+    (omega arith, sym (l .inv .5 ∙ ap (λ (x : List ℕ). sets (l .room) (l .end) x) none), omega (arith, c .before .before .before .before .pre))
 
 pub put-map-lines-spec : {M : Type 1} → statement M
 put-map-lines-spec =

@@ -9,7 +9,7 @@ use lib.Dec.{eqb, ltb}
 use lib.ListN.{length, getD}
 use Rattle.common.specs.Refusals.{firstRefusal}
 use Rattle.numbers.specs.LittleEndian.{le}
-use Rattle.volume.specs.Header.{headerLengthAt, headerLengthFault, signature, answered, bytesRefusals}
+use Rattle.volume.specs.Header.{headerLengthAt, headerLengthFault, signature, answered, openRefusals}
 use Rattle.volume.proofs.HeaderLaws.{header-length-passed}
 use Rattle.volume.proofs.header.bytes_refusal.Statement.{statement}
 use Rattle.volume.proofs.header.bytes_refusal.Tie as tie
@@ -28,21 +28,21 @@ measured : (c : tie.Else4) → headerLengthFault (headerLengthAt (now (c .before
 measured c = rw (c .before .before .u16-at .ensures) at (sym (c .before .header-length-fault .ensures) ∙ c .if4 .left)
 
 returns : tie.Need-returns
-unfolding answered firstRefusal bytesRefusals
+unfolding answered firstRefusal openRefusals
 returns c = simp (lt-ltb _ _ (c .if1 .taken))
 
 u32-at-requires : tie.Need-u32-at-requires
 u32-at-requires c κs = search needs
 
 returns-2 : tie.Need-returns-2
-unfolding answered firstRefusal bytesRefusals
+unfolding answered firstRefusal openRefusals
 returns-2 c = simp (long (c .before .before), ne-eqb _ _ (λ e. c .if2 .taken (c .before .u32-at .ensures ∙ e)))
 
 byte-at-requires : tie.Need-byte-at-requires
 byte-at-requires c κs = search needs
 
 returns-3 : tie.Need-returns-3
-unfolding answered firstRefusal bytesRefusals
+unfolding answered firstRefusal openRefusals
 returns-3 c = simp (long (c .before .before .before .before), signed (c .before .before), ne-eqb _ _ (λ e. c .if3 .taken (c .before .byte-at .ensures ∙ e)))
 
 u16-at-requires : tie.Need-u16-at-requires
@@ -55,7 +55,7 @@ header-length-fault-requires : tie.Need-header-length-fault-requires
 header-length-fault-requires c κs = search needs
 
 returns-4 : tie.Need-returns-4
-unfolding answered firstRefusal bytesRefusals
+unfolding answered firstRefusal openRefusals
 returns-4 c = simp (long (c .before .before .before .before .before .before .before), signed (c .before .before .before .before .before), revised (c .before .before .before), rw (c .before .before .u16-at .ensures) at (sym (c .before .header-length-fault .ensures) ∙ c .if4 .taken))
 
 slice-aggregate-word-sum : tie.Need-slice-aggregate-word-sum
@@ -67,11 +67,11 @@ word-sum-requires c κs =
     rw (length-take-le _ _ (h .2)) (h .1)
 
 returns-5 : tie.Need-returns-5
-unfolding answered firstRefusal bytesRefusals
+unfolding answered firstRefusal openRefusals
 returns-5 c = simp (long (c .before .before .before .before .before .before .before .before .before .before), signed (c .before .before .before .before .before .before .before .before), revised (c .before .before .before .before .before .before), measured (c .before .before .before), ne-eqb _ _ (λ e. c .if5 .taken (rw (c .before .word-sum .ensures, c .before .before .before .before .before .u16-at .ensures) e)))
 
 returns-6 : tie.Need-returns-6
-unfolding answered firstRefusal bytesRefusals
+unfolding answered firstRefusal openRefusals
 returns-6 c = simp (long (c .before .before .before .before .before .before .before .before .before .before), signed (c .before .before .before .before .before .before .before .before), revised (c .before .before .before .before .before .before), measured (c .before .before .before), eq-eqb _ _ (rw (c .before .word-sum .ensures, c .before .before .before .before .before .u16-at .ensures) at (c .if5 .left)))
 
 pub bytes-refusal-spec : {M : Type 1} → statement M

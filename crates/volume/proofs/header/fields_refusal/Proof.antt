@@ -11,7 +11,7 @@ use Rattle.common.specs.Refusals.{firstRefusal}
 use Rattle.volume.specs.Attributes.{attributesFault}
 use Rattle.volume.specs.BlockMap.{hasZero, sizeFault}
 use Rattle.volume.specs.State.{mapOf}
-use Rattle.volume.specs.Header.{answered, fieldsRefusals, mapFault}
+use Rattle.volume.specs.Header.{answered, openRefusals, mapFault}
 use Rattle.volume.proofs.header.fields_refusal.Statement.{statement}
 use Rattle.volume.proofs.header.fields_refusal.Tie as tie
 
@@ -57,14 +57,14 @@ has-zero-requires : tie.Need-has-zero-requires
 has-zero-requires c κs = search needs
 
 returns : tie.Need-returns
-unfolding answered firstRefusal fieldsRefusals mapFault mapOf
+unfolding answered firstRefusal openRefusals mapFault mapOf
 returns c = simp (sym (c .before .has-zero .ensures) ∙ c .if1 .taken)
 
 u64-at-requires : tie.Need-u64-at-requires
 u64-at-requires c κs = search needs
 
 returns-2 : tie.Need-returns-2
-unfolding answered firstRefusal fieldsRefusals mapFault
+unfolding answered firstRefusal openRefusals mapFault
 returns-2 c = simp (nonzero (c .before .before), ne-eqb _ _ (λ e. c .if2 .taken (rw (c .before .u64-at .ensures, c .before .before .before .before .before .u16-at .ensures) e)))
 
 array-share-prefix-map-2 : tie.Need-array-share-prefix-map-2
@@ -77,29 +77,29 @@ size-fault-requires : tie.Need-size-fault-requires
 size-fault-requires c κs = length-take-le _ _ (omega (arith, map-length (c .before .before .before .before .before .before .before .before .before)))
 
 returns-3 : tie.Need-returns-3
-unfolding answered firstRefusal fieldsRefusals mapOf
+unfolding answered firstRefusal openRefusals mapOf
 returns-3 c = simp (mapped (c .before .before .before), sym (c .before .size-fault .ensures) ∙ c .if3 .taken)
 
 attributes-fault-requires : tie.Need-attributes-fault-requires
 attributes-fault-requires c κs = search needs
 
 returns-4 : tie.Need-returns-4
-unfolding answered firstRefusal fieldsRefusals
+unfolding answered firstRefusal openRefusals
 returns-4 c = simp (mapped (c .before .before .before .before .before), sized (c .before .before), sym (c .before .attributes-fault .ensures) ∙ c .if4 .taken)
 
 returns-5 : tie.Need-returns-5
-unfolding answered firstRefusal fieldsRefusals
+unfolding answered firstRefusal openRefusals
 returns-5 c = simp (mapped (c .before .before .before .before .before .before .before), sized (c .before .before .before .before), allowed (c .before .before), lt-ltb _ _ (c .if5 .taken))
 
 base-fault-requires : tie.Need-base-fault-requires
 base-fault-requires c κs = search needs
 
 returns-6 : tie.Need-returns-6
-unfolding answered firstRefusal fieldsRefusals
+unfolding answered firstRefusal openRefusals
 returns-6 c = simp (mapped (c .before .before .before .before .before .before .before .before .before), sized (c .before .before .before .before .before .before), allowed (c .before .before .before .before), le-ltb _ _ (c .before .before .if5 .left), sym (c .before .base-fault .ensures) ∙ c .if6 .taken)
 
 returns-7 : tie.Need-returns-7
-unfolding answered firstRefusal fieldsRefusals
+unfolding answered firstRefusal openRefusals
 returns-7 c = simp (mapped (c .before .before .before .before .before .before .before .before .before), sized (c .before .before .before .before .before .before), allowed (c .before .before .before .before), le-ltb _ _ (c .before .before .if5 .left), sym (c .before .base-fault .ensures) ∙ c .if6 .left)
 
 pub fields-refusal-spec : {M : Type 1} → statement M

@@ -1,13 +1,16 @@
 -- `volume::header::refused` meets its contract: the zero state, written out.
-use mathlib.Core.Path.{refl}
+use borrow.Author.Needs.{needs}
 use Rattle.volume.specs.Header.{answered}
-use Rattle.volume.specs.State.{zeroState}
+use Rattle.volume.specs.State.{stateOf, zeroState}
 use Rattle.volume.proofs.header.refused.Statement.{statement}
 use Rattle.volume.proofs.header.refused.Tie as tie
 
+state-with-requires : tie.Need-state-with-requires
+state-with-requires c κs = search needs
+
 returns : tie.Need-returns
-unfolding answered zeroState
-returns c = refl
+unfolding answered zeroState stateOf
+returns c = rw (c .state-with .ensures)
 
 pub refused-spec : {M : Type 1} → statement M
-refused-spec = tie.close (tie.spec returns)
+refused-spec = tie.close (tie.spec state-with-requires returns)

@@ -1,4 +1,5 @@
 -- `volume::header::state_at` meets its contract: field by field, from what the readers ensure.
+use mathlib.Core.Path.{_∙_}
 use borrow.Author.Needs.{needs}
 use Rattle.volume.specs.Header.{stateAt}
 use Rattle.volume.specs.State.{stateOf}
@@ -26,9 +27,12 @@ u64-at-requires c κs = search needs
 u32-at-requires : tie.Need-u32-at-requires
 u32-at-requires c κs = search needs
 
+state-with-requires : tie.Need-state-with-requires
+state-with-requires c κs = search needs
+
 returns : tie.Need-returns
 unfolding stateAt stateOf
-returns c = rw (c .before .before .before .guid-at .ensures, c .before .u64-at .ensures, c .u32-at .ensures, c .before .before .map-at .ensures, c .before .before .before .before .u16-at .ensures)
+returns c = c .state-with .ensures ∙ rw (c .before .before .before .before .guid-at .ensures, c .before .before .u64-at .ensures, c .before .u32-at .ensures, c .before .before .before .map-at .ensures, c .before .before .before .before .before .u16-at .ensures)
 
 pub state-at-spec : {M : Type 1} → statement M
 state-at-spec =
@@ -41,4 +45,5 @@ state-at-spec =
     map-at-requires
     u64-at-requires
     u32-at-requires
+    state-with-requires
     returns)

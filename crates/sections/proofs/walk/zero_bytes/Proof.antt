@@ -1,0 +1,54 @@
+-- `zero_bytes` meets its contract. The loop's invariant: the bytes still to come decide.
+use Prim.Native.Nat.{_≤_, _+_, _-_}
+use mathlib.Core.Path.{_≡_, _∙_}
+use native.Mathlib.Omega.{arith}
+use borrow.Author.Needs.{needs}
+use Rattle.sections.specs.Walk.{zeros}
+use Rattle.sections.proofs.WalkLaws.{zeros-whole, zeros-end, zeros-stop, zeros-more}
+use Rattle.sections.proofs.walk.zero_bytes.Statement.{statement}
+use Rattle.sections.proofs.walk.zero_bytes.Tie as tie
+
+abbrev Inv-loop : tie.InvT-loop
+Inv-loop s at n i₀ i = (i ≤ n) × (zeros s (at + i) (n - i) ≡ zeros s at n)
+
+abbrev μ-loop : tie.MeasureT-loop
+μ-loop s at n i₀ i = n - i
+
+loop-holds : tie.Need-loop-holds Inv-loop μ-loop
+loop-holds c = (search needs, zeros-whole _ _ _)
+
+add-byte-at : tie.Need-add-byte-at Inv-loop μ-loop
+add-byte-at c = search needs
+
+byte-at-requires : tie.Need-byte-at-requires Inv-loop μ-loop
+byte-at-requires c κs = search needs
+
+returns : tie.Need-returns Inv-loop μ-loop
+returns c = zeros-stop _ _ _ _ (search needs) (omega arith) ∙ c .before .before .before .loop .inv .1
+
+add-i : tie.Need-add-i Inv-loop μ-loop
+add-i c = search needs
+
+loop-less : tie.Need-loop-less Inv-loop μ-loop
+loop-less c = search needs
+
+loop-again : tie.Need-loop-again Inv-loop μ-loop
+loop-again c = (search needs, zeros-more _ _ _ _ (search needs) (search needs) ∙ c .before .before .before .loop .inv .1)
+
+returns-2 : tie.Need-returns-2 Inv-loop μ-loop
+returns-2 c = zeros-end _ _ _ _ (search needs) ∙ c .before .loop .inv .1
+
+pub zero-bytes-spec : {M : Type 1} → statement M
+zero-bytes-spec =
+    tie.close
+    (tie.spec
+    Inv-loop
+    μ-loop
+    loop-holds
+    add-byte-at
+    byte-at-requires
+    returns
+    add-i
+    loop-less
+    loop-again
+    returns-2)

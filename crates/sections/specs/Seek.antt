@@ -1,0 +1,34 @@
+-- What the code of the walk carries along while it looks for the instance wanted: private to the crate, and no part of what
+-- `search` promises.
+use Prim.Native.Nat.{ℕ, _-_}
+use mathlib.Core.Bool.{cond}
+use lib.Dec.{eqb}
+use Rattle.sections.specs.Walk.{Trace, done, fault, section}
+use Rattle.sections.specs.declared.search.Found.{Found}
+use Rattle.sections.specs.declared.search.Found.the-variants as found
+use Rattle.sections.specs.declared.walk.Seek.{Seek}
+use Rattle.sections.specs.declared.walk.Seek.the-variants.{Refused, Left, Met}
+
+-- at a section: one of the type wanted is the one wanted, where none is left before it
+unfoldable pub visited : (want : ℕ) → Seek → (kind first end : ℕ) → Seek
+visited want (Refused n) k f e = Refused n
+visited want (Left i) k f e = cond (eqb k want) (cond (eqb i 0) (Met f e) (Left (i - 1))) (Left i)
+visited want (Met a b) k f e = Met a b
+
+-- at a fault: the first one stays
+unfoldable pub halted : ℕ → Seek → Seek
+halted n (Refused m) = Refused m
+halted n (Left i) = Refused n
+halted n (Met a b) = Refused n
+
+-- through all that a walk meets
+unfoldable pub run : (want : ℕ) → Seek → Trace → Seek
+run want a done = a
+run want a (fault n) = halted n a
+run want a (section k f e t) = run want (visited want a k f e) t
+
+-- the answer at the end of the walk
+unfoldable pub answered : Seek → Found
+answered (Refused n) = found.Refused n
+answered (Left i) = found.Refused 14
+answered (Met f e) = found.Part f e

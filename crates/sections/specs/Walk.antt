@@ -1,0 +1,73 @@
+-- The walk through a section stream and its holders (01, "Sections"): depth first, left to right, through at most eight levels.
+use Prim.Native.Nat.{ℕ, zero, suc, _+_, _-_, _*_, _/_}
+use mathlib.Core.Bool.{Bool, true, cond, _&&_}
+use mathlib.Core.List.{List}
+use lib.Dec.{eqb, ltb}
+use lib.ListN.{length, getD, take, drop}
+use Rattle.sections.specs.Header.{headAt}
+use Rattle.sections.specs.declared.header.Head.{Head}
+use Rattle.sections.specs.declared.header.Head.the-variants.{Fault, Closed, Open}
+
+-- what the walk meets, in walk order: sections, each with its type and the first byte and the end of what follows its first
+-- 4 bytes, counted in the outer stream; at the end nothing more, or the first fault
+pub data Trace : Type 0 where
+  done : Trace
+  fault : ℕ → Trace
+  section : (kind first end : ℕ) → Trace → Trace
+
+-- the one and, unless it ends in a fault, then the other
+unfoldable pub andThen : Trace → Trace → Trace
+andThen done u = u
+andThen (fault n) u = fault n
+andThen (section k f e t) u = section k f e (andThen t u)
+
+-- "sections start on multiples of 4 counted from the start of the stream that holds them": the first such place from n on
+abbrev pub aligned : ℕ → ℕ
+aligned n = (n + 3) / 4 * 4
+
+-- n bytes from byte `at` on are zero; a byte past the end counts as 0
+unfoldable pub zeros : List ℕ → ℕ → ℕ → Bool
+zeros s at zero = true
+zeros s at (suc n) = eqb (getD s at 0) 0 && zeros s (at + 1) n
+
+-- after a section that ends at byte e: 207 for "nonzero padding" ("padding cut off by the stream's end is fine"), or the walk
+-- on from the next start
+unfoldable pub afterPadding : List ℕ → ℕ → (ℕ → Trace) → Trace
+afterPadding s e rest = let next = rest (aligned e) in cond (zeros s e (aligned e - e)) next (fault 207)
+
+-- the bytes of a stream from one place up to another
+abbrev pub part : (from end : ℕ) → List ℕ → List ℕ
+part from e s = take (e - from) (drop from s)
+
+-- the walk at one start, by what stands there: its fault; or the section, then the children of an open one, then its padding
+-- and `rest` from the next start on. `below` is the number of levels left below this one ("205: contents to be searched
+-- would lie on a ninth level"), `inner` the walk there; `base` is where the stream starts in the outer one
+unfoldable pub meet : (below : ℕ) → (inner : List ℕ → ℕ → Trace) → List ℕ → (base at : ℕ) → Head → (rest : ℕ → Trace) → Trace
+meet below inner s base at (Fault n) rest = fault n
+meet below inner s base at (Closed t e) rest = section t (base + (at + 4)) (base + e) (afterPadding s e rest)
+meet below inner s base at (Open t from e) rest =
+    let children = inner (part from e s) (base + from) in
+    let all = section t (base + (at + 4)) (base + e) (andThen children (afterPadding s e rest)) in
+    cond (eqb below 0) (fault 205) all
+
+-- the sections of one stream from byte `at` on, at most `fuel` of them; a stream of n bytes has at most n, and
+-- proofs/WalkLaws.antt has the laws without this number
+unfoldable pub siblings : (below : ℕ) → (inner : List ℕ → ℕ → Trace) → (fuel : ℕ) → List ℕ → (base at : ℕ) → Trace
+siblings below inner zero s base at = done
+siblings below inner (suc fuel) s base at =
+    let here = meet below inner s base at (headAt s at) (siblings below inner fuel s base) in
+    cond (ltb at (length s)) here done
+
+-- the walk through a stream that starts at byte `base` of the outer one, with `below` levels left below it; on the last level
+-- nothing is opened
+unfoldable pub walk : (below : ℕ) → List ℕ → (base : ℕ) → Trace
+walk zero s base = siblings 0 (λ l b. done) (length s) s base 0
+walk (suc below) s base = siblings (suc below) (walk below) (length s) s base 0
+
+-- "206: stream over 16,777,216 bytes"
+abbrev pub streamLimit : ℕ
+streamLimit = 16777216
+
+-- the walk through a whole stream: eight levels, the outer stream the first
+unfoldable pub streamWalk : List ℕ → Trace
+streamWalk s = let whole = walk 7 s 0 in cond (ltb streamLimit (length s)) (fault 206) whole

@@ -1,0 +1,84 @@
+// Appending a leaf to a section stream.
+ghost use mathlib.Core.Path.{_≡_};
+ghost use Prim.Native.Nat.{_≤_, _<_, _^_};
+ghost use lib.ListN.{length};
+ghost use lib.Seq.{sets};
+ghost use Rattle.sections.specs.Append.{appendOf, bufferAfter, added, usedAfter};
+use super::header::COMMON_HEADER;
+use super::header::TYPE;
+use super::kinds::SECTION_COMPRESSION;
+use super::kinds::SECTION_GUID_DEFINED;
+use super::kinds::kind_of;
+use super::search::STREAM_LIMIT;
+use super::walk::aligned;
+
+// The largest size that a section header holds.
+const SIZE_LIMIT: usize = 16_777_215;
+
+// What appending answers: the new used count; or document 01's refusal number, 2, 202, 206 or 5.
+pub enum Appended {
+    Used(usize),
+    Refused(u16),
+}
+
+// Appends a leaf after the `used` bytes of a stream in a buffer: padding, header and body. Every
+// other byte of the buffer stays, and on a refusal all of them. The stream itself is not tested.
+// Linear in the body.
+pub fn append(buffer: &mut [u8], used: usize, kind: u8, body: &[u8]) -> Appended
+    ensures { λ r. ⌜ (r ≡ appendOf (length (now (buffer .entry))) used kind (length (now (body .entry))))
+        × (now (buffer .exit) ≡ bufferAfter r (now (buffer .entry)) used kind (now (body .entry))) ⌝ }
+{
+    if kind == SECTION_COMPRESSION {
+        return Appended::Refused(2);
+    }
+    if kind == SECTION_GUID_DEFINED {
+        return Appended::Refused(2);
+    }
+    if buffer.len() < used {
+        return Appended::Refused(2);
+    }
+    let size = COMMON_HEADER + body.len();
+    let k = kind_of(kind);
+    let least = k.least;
+    if size < least {
+        return Appended::Refused(202);
+    }
+    if SIZE_LIMIT < size {
+        return Appended::Refused(206);
+    }
+    let end = aligned(used) + size;
+    if STREAM_LIMIT < end {
+        return Appended::Refused(206);
+    }
+    if buffer.len() < end {
+        return Appended::Refused(5);
+    }
+    store_leaf(buffer, used, kind, body);
+    Appended::Used(end)
+}
+
+// Stores padding, header and body from byte `used` on.
+fn store_leaf(buffer: &mut [u8], used: usize, kind: u8, body: &[u8])
+    requires { ⌜ (usedAfter used (length (now body)) ≤ length (now buffer)) × (usedAfter used (length (now body)) < 2 ^ 63) ⌝ }
+    ensures { λ _. ⌜ now (buffer .exit) ≡ sets (now (buffer .entry)) used (added used kind (now (body .entry))) ⌝ }
+{
+    let start = aligned(used);
+    let size = COMMON_HEADER + body.len();
+    numbers::store(buffer, used, start - used, 0);
+    numbers::store(buffer, start, 3, size as u64);
+    numbers::store(buffer, start + TYPE, 1, kind as u64);
+    let from = start + COMMON_HEADER;
+    let end = start + size;
+    copy(&mut buffer[from..end], body);
+}
+
+// Copies the source into the destination, as far as both go.
+fn copy(dst: &mut [u8], src: &[u8])
+    ensures { λ _. ⌜ now (dst .exit) ≡ sets (now (dst .entry)) 0 (now (src .entry)) ⌝ }
+{
+    let mut i = 0;
+    while i < dst.len() && i < src.len() {
+        dst[i] = src[i];
+        i += 1;
+    }
+}

@@ -1,0 +1,10 @@
+// Section streams (002): the types of sections, reading a section header, the walk through a stream
+// and its holders, searching a stream, and appending a leaf.
+//
+// No public function here has a `requires`: whatever the bytes are, the answer is a value or one of
+// document 01's refusal numbers.
+pub mod append;
+mod header;
+pub mod kinds;
+pub mod search;
+mod walk;
