@@ -1,5 +1,13 @@
 pub mod BlockMap
+pub mod Edit
+pub mod EraseLists
 pub mod HeaderLaws
 pub mod HeaderWriterLaws
+pub mod Lawful
+pub mod Moves
 pub mod Opening
+pub mod Places
 pub mod RoundTrip
+pub mod ServiceLaws
+pub mod SettingRules
+pub mod Steps

@@ -3,8 +3,13 @@
 //
 // Every public function answers every input and has no `requires`. A refusal carries document 01's number,
 // and changes no lent byte and no state.
+pub mod access;
 pub mod attributes;
 pub mod block_map;
+pub mod blocks;
+pub mod erase;
 pub mod header;
 pub mod header_writer;
+pub mod service;
+pub mod settings;
 pub mod state;

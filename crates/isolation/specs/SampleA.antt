@@ -1,0 +1,20 @@
+-- Document 01's sample A: 2,048 bytes, GUID zero, attributes 0x0E3F, header length 72, one entry of 4 blocks of 512, checksum bytes
+-- C0 57, FF from byte 72 on.
+use Prim.Native.Nat.{ℕ}
+use mathlib.Core.List.{List, [], _∷_, _++_}
+use lib.ListN.{replicate}
+
+-- its header: zero vector and GUID; length; signature; attributes; header length; checksum; reserved bytes and revision; map
+unfoldable pub headerA : List ℕ
+headerA =
+    replicate 32 0
+    ++ ((0x00 ∷ 0x08 ∷ replicate 6 0)
+    ++ ((0x5F ∷ 0x46 ∷ 0x56 ∷ 0x48 ∷ [])
+    ++ ((0x3F ∷ 0x0E ∷ 0x00 ∷ 0x00 ∷ [])
+    ++ ((0x48 ∷ 0x00 ∷ [])
+    ++ ((0xC0 ∷ 0x57 ∷ [])
+    ++ ((0x00 ∷ 0x00 ∷ 0x00 ∷ 0x01 ∷ [])
+    ++ ((0x04 ∷ 0x00 ∷ 0x00 ∷ 0x00 ∷ 0x00 ∷ 0x02 ∷ 0x00 ∷ 0x00 ∷ []) ++ replicate 8 0)))))))
+
+unfoldable pub sampleA : List ℕ
+sampleA = headerA ++ replicate 1976 0xFF

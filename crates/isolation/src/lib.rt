@@ -1,0 +1,1 @@
+// Definitions and theorems about runs of block service calls; no code.

@@ -1,0 +1,53 @@
+-- What a lawful state is known to have: its entries, blocks and length keep the limits, and its blocks make up its length.
+use Prim.Native.Nat.{ℕ, _*_, _≤_}
+use mathlib.Core.Path.{_≡_}
+use mathlib.Core.Bool.{false}
+use native.Mathlib.Omega.{arith}
+use lib.ListN.{take}
+use Rattle.common.proofs.Refusals.{any-passed}
+use Rattle.volume.specs.Attributes.{attributesFault}
+use Rattle.volume.specs.BlockMap.{blocks, bytes, hasZero, sizeFault}
+use Rattle.volume.specs.State.{mapOf, unlawful}
+use Rattle.volume.proofs.BlockMap.{size-passed}
+use Rattle.volume.specs.declared.state.State.{State}
+
+pub record Lawful (st : State) : Type 0 where
+  pub nonzero : hasZero (mapOf st) ≡ false
+  pub entries : st .entries ≤ 32
+  pub blocks : blocks (mapOf st) ≤ 65536
+  pub length : st .length ≤ 16777216
+  pub total : bytes (mapOf st) ≡ st .length
+  pub attributes : attributesFault (st .attributes) ≡ false
+
+pub lawful : (st : State) → unlawful st ≡ false → Lawful st
+unfolding unlawful
+lawful st e =
+    let a = any-passed (hasZero (mapOf st)) _ e in
+    let b = any-passed (sizeFault (st .entries) (mapOf st) (st .length)) _ (a .1) in
+    let c = any-passed (attributesFault (st .attributes)) _ (b .1) in
+    let s = size-passed (st .entries) (mapOf st) (st .length) (b .0) in
+    record {
+      nonzero = a .0;
+      entries = s .few-entries;
+      blocks = s .few-blocks;
+      length = s .short;
+      total = s .total;
+      attributes = c .0;
+    }
+
+-- the same of a map as it is lent: the first words of an array of 64
+module _ (st : State) (k : Lawful st) where
+  pub lent-entries : 2 * st .entries ≤ 64
+  lent-entries = omega (arith, k .entries)
+
+  pub lent-bytes : bytes (take (2 * st .entries) (st .map)) ≤ 16777216
+  unfolding mapOf
+  lent-bytes = omega (arith, k .length, k .total)
+
+  pub lent-blocks : blocks (take (2 * st .entries) (st .map)) ≤ 65536
+  unfolding mapOf
+  lent-blocks = k .blocks
+
+  pub lent-within : (n : ℕ) → st .length ≤ n → bytes (take (2 * st .entries) (st .map)) ≤ n
+  unfolding mapOf
+  lent-within n h = omega (arith, k .total)

@@ -1,0 +1,15 @@
+use borrow.Author.Tests.{eq-eqb, ne-eqb}
+use Rattle.volume.specs.Service.{movedAnswer, moveAnswer}
+use Rattle.volume.proofs.access.moved.Statement.{statement}
+use Rattle.volume.proofs.access.moved.Tie as tie
+
+returns : tie.Need-returns
+unfolding movedAnswer moveAnswer
+returns c = simp (eq-eqb _ _ (c .if1 .taken))
+
+returns-2 : tie.Need-returns-2
+unfolding movedAnswer moveAnswer
+returns-2 c = simp (ne-eqb _ _ (c .if1 .left))
+
+pub moved-spec : {M : Type 1} → statement M
+moved-spec = tie.close (tie.spec returns returns-2)

@@ -1,0 +1,15 @@
+use borrow.Author.Tests.{eq-eqb, ne-eqb}
+use Rattle.volume.specs.Erase.{erasedByte}
+use Rattle.volume.proofs.erase.erased_byte.Statement.{statement}
+use Rattle.volume.proofs.erase.erased_byte.Tie as tie
+
+returns : tie.Need-returns
+unfolding erasedByte
+returns c = simp (eq-eqb _ _ (c .if1 .taken))
+
+returns-2 : tie.Need-returns-2
+unfolding erasedByte
+returns-2 c = simp (ne-eqb _ _ (c .if1 .left))
+
+pub erased-byte-spec : {M : Type 1} → statement M
+erased-byte-spec = tie.close (tie.spec returns returns-2)
