@@ -8,7 +8,7 @@ use mathlib.Core.List.{List, [], _∷_, _++_, append-assoc, append-nil}
 use mathlib.Core.Option.{Option, none, some}
 use native.Mathlib.Omega.{arith}
 use lib.Dec.{eqb, ltb}
-use lib.ListN.{length, getD, take, drop, replicate, getElem?, length-append, length-replicate, getD-replicate, List·getD-append, List·getD-eq-default}
+use lib.ListN.{length, getD, take, drop, replicate, getElem?, length-append, length-drop, length-replicate, getD-replicate, List·getD-append, List·getD-eq-default}
 use lib.Seq.{take-at, length-take-le, take-append-le, drop-append-le, getD-append-add, drop-append-add, take-length}
 use borrow.Author.Tests.{le-ltb, eq-eqb, ltb-true, ltb-false, eqb-true}
 use Rattle.common.specs.Refusals.{firstRefusal}
@@ -29,7 +29,7 @@ use Rattle.sections.proofs.AppendLaws.{length-added}
 use Rattle.sections.proofs.KindLaws.{not-holder}
 use Rattle.sections.proofs.HeaderLaws.{Whole, is-closed, is-open, closed-within, open-within, head-same, head-leaf}
 use Rattle.sections.proofs.WalkLaws.{walkFrom, walk-from-start, walk-end, walk-fault, walk-closed, walk-205, walk-open, padding-zero, padding-207, zeros-same}
-use Rattle.sections.proofs.SearchLaws.{shown-part, sections-then, fault-then}
+use Rattle.sections.proofs.SearchLaws.{part-inside, shown-part, sections-then, fault-then}
 
 then-assoc : (t u v : Trace) → andThen (andThen t u) v ≡ andThen t (andThen u v)
 unfolding andThen
@@ -399,6 +399,16 @@ module _ (buffer : List ℕ) (used kind : ℕ) (body : List ℕ) {u : ℕ} (answ
       found-after t i ∙ rw q (ap₂ Part (y .3) (y .4))
 
   -- the new type at the instance equal to its earlier number shows the new body
+  -- and the part holds the same bytes
+  pub kept-bytes : (t i : ℕ) {f e : ℕ} → searchOf streamBefore t i ≡ Part f e → part f e streamAfter ≡ part f e streamBefore
+  kept-bytes t i {f} {e} p =
+      let within = part-inside streamBefore t i f e p in
+      let rest : List ℕ = added (length streamBefore) kind body in
+      let short : e - f ≤ length (drop f streamBefore) = rw (length-drop f streamBefore) (omega arith) in
+      ap (λ (s : List ℕ). part f e s) stream-after
+      ∙ ap (λ (l : List ℕ). take (e - f) l) (drop-append-le f streamBefore rest (omega arith))
+      ∙ take-append-le (e - f) (drop f streamBefore) rest short
+
   pub search-new : searchOf streamAfter kind (countOf kind streamBefore) ≡ Part (aligned used + 4) u
   unfolding ofType
   search-new = found-after kind (countOf kind streamBefore) ∙ rw (eq-eqb kind kind refl, nth-last (ofType kind (sections (streamWalk streamBefore))) newSection)

@@ -1,5 +1,6 @@
--- Bytes that no search reads: two streams of one length that agree outside the bodies of leaves and the packed contents of holders,
--- on every level of the walk, give the same walk and the same answers. What lies inside packed contents changes no answer.
+-- Bytes that no search reads: two streams of one length that agree outside what follows the own header of sections that are not opened
+-- (leaves, and holders with packed contents), on every level, give the same walk and the same answers. What lies inside packed contents
+-- changes no answer.
 use Prim.Native.Nat.{ℕ, zero, suc, _+_, _-_, _≤_, _<_}
 use mathlib.Core.Path.{_≡_, refl, sym, ap, subst, _∙_}
 use mathlib.Core.Bool.{Bool, true, false}
@@ -19,7 +20,8 @@ use Rattle.sections.specs.declared.header.Head.the-variants.{Fault, Clos
 use Rattle.sections.proofs.HeaderLaws.{is-closed, is-open, closed-within, open-within, contents-within, head-same}
 use Rattle.sections.proofs.WalkLaws.{zeros-same}
 
--- byte i of a stream is a byte of the kind P of some section on the walk from byte `at` on, with n levels left below: of the section
+-- byte i of a stream is a byte of the kind P of some section at the starts that follow one another from byte `at` on, whatever faults their
+-- padding or children have, with n levels left below: of the section
 -- that stands at `at`, of one at a later start, or of one inside a holder
 pub data OnWalk (P : List ℕ → ℕ → ℕ → Type 0) : (n : ℕ) → List ℕ → (at i : ℕ) → Type 0 where
   here : {n : ℕ} {s : List ℕ} {at i : ℕ} → P s at i → OnWalk P n s at i

@@ -6,14 +6,14 @@ use lib.Dec.{eqb, ltb}
 use lib.ListN.{length, take, drop, replicate}
 use Rattle.common.specs.Refusals.{Row, row, firstRefusal}
 use Rattle.numbers.specs.LittleEndian.{leBytes}
-use Rattle.sections.specs.Kinds.{compression, guidDefined, kindOf}
+use Rattle.sections.specs.Kinds.{compression, guidDefined, commonHeader, kindOf}
 use Rattle.sections.specs.Walk.{aligned, streamLimit}
 use Rattle.sections.specs.declared.append.Appended.{Appended}
 use Rattle.sections.specs.declared.append.Appended.the-variants.{Used, Refused}
 
 -- the size of a leaf with a body of m bytes, header included
 abbrev pub leafSize : ℕ → ℕ
-leafSize m = 4 + m
+leafSize m = commonHeader + m
 
 -- the largest 24-bit size
 abbrev pub sizeLimit : ℕ

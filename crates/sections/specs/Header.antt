@@ -1,4 +1,4 @@
--- The header of one section (002, "EFI_COMMON_SECTION_HEADER"; 01, "Sections"): its fields, its faults and what it opens.
+-- The header of one section (002, "Section Layout"; 01, "Sections"): its fields, its faults and what it opens.
 -- A stream is a list of bytes; a byte past its end counts as 0.
 use Prim.Native.Nat.{ℕ, _+_, _-_, _%_, _≤_}
 use mathlib.Core.Path.{_≡_}
@@ -9,7 +9,7 @@ use lib.Dec.{eqb, ltb}
 use lib.ListN.{length, getD}
 use Rattle.common.specs.Refusals.{Row, row, firstRefusal}
 use Rattle.numbers.specs.LittleEndian.{le}
-use Rattle.sections.specs.Kinds.{compression, kindOf}
+use Rattle.sections.specs.Kinds.{compression, commonHeader, compressionHeader, guidDefinedHeader, kindOf}
 use Rattle.sections.specs.declared.header.Head.{Head}
 use Rattle.sections.specs.declared.header.Head.the-variants.{Fault, Closed, Open}
 use Rattle.sections.specs.declared.kinds.Class.{Class}
@@ -44,7 +44,7 @@ isHolder PlainLeaf = false
 
 -- the first byte of a holder's contents
 unfoldable pub contentsAt : List ℕ → ℕ → ℕ
-contentsAt s at = cond (eqb (typeAt s at) compression) (at + 9) (at + dataOffset s at)
+contentsAt s at = cond (eqb (typeAt s at) compression) (at + compressionHeader) (at + dataOffset s at)
 
 -- packed contents are not searched: a compression kind other than 0, or attribute bit 0 set
 unfoldable pub packed : List ℕ → ℕ → Bool
@@ -54,13 +54,13 @@ packed s at = cond (eqb (typeAt s at) compression) (not (eqb (compressionKind s 
 unfoldable pub wrongContents : List ℕ → ℕ → Bool
 wrongContents s at =
     cond (eqb (typeAt s at) compression)
-    (eqb (compressionKind s at) 0 && not (eqb (unpackedLength s at) (sizeAt s at - 9)))
-    (ltb (dataOffset s at) 24 || ltb (sizeAt s at) (dataOffset s at))
+    (eqb (compressionKind s at) 0 && not (eqb (unpackedLength s at) (sizeAt s at - compressionHeader)))
+    (ltb (dataOffset s at) guidDefinedHeader || ltb (sizeAt s at) (dataOffset s at))
 
 -- the faults of the section that starts at byte `at`, in the order in which they are tested
 unfoldable pub headFaults : List ℕ → ℕ → List Row
 headFaults s at =
-    row (ltb (length s - at) 4) 201
+    row (ltb (length s - at) commonHeader) 201
     ∷ row (ltb (sizeAt s at) (kindOf (typeAt s at) .least)) 202
     ∷ row (ltb (length s - at) (sizeAt s at)) 203
     ∷ row (isHolder (kindOf (typeAt s at) .class) && wrongContents s at) 204
@@ -82,7 +82,7 @@ orFault (some n) h = Fault n
 unfoldable pub headAt : List ℕ → ℕ → Head
 headAt s at = orFault (firstRefusal (headFaults s at)) (sectionAt s at)
 
--- a holder that passed 201 to 203, with its type and size: what the reader of its own fields is given
+-- private to the code's contracts: a holder that passed 201 to 203, with its type and size, as the reader of its own fields is given it
 pub record Lies (s : List ℕ) (at kind size : ℕ) : Type 0 where
   pub sized : size ≡ sizeAt s at
   pub typed : kind ≡ typeAt s at

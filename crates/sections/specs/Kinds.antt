@@ -1,4 +1,6 @@
 -- Section types (002, "Architectural Section Types"; 01, "Sections"): the class and the least size of a type byte.
+-- A section's type byte is called `kind` in the code and here, since `type` is a word of the language; the compression section's own kind byte
+-- is `compressionKind`.
 use Prim.Native.Nat.{ℕ}
 use mathlib.Core.Bool.{cond}
 use lib.Dec.{eqb}
@@ -16,6 +18,19 @@ guidDefined = 0x02
 abbrev pub freeformGuid : ℕ
 freeformGuid = 0x18
 
+-- the lengths of the headers: the one that all sections share, and those with fields of their own
+abbrev pub commonHeader : ℕ
+commonHeader = 4
+
+abbrev pub compressionHeader : ℕ
+compressionHeader = 9
+
+abbrev pub guidDefinedHeader : ℕ
+guidDefinedHeader = 24
+
+abbrev pub freeformGuidHeader : ℕ
+freeformGuidHeader = 20
+
 -- a class and a least size
 abbrev pub kindIs : Class → ℕ → Kind
 kindIs c n = record { class = c; least = n }
@@ -24,7 +39,7 @@ kindIs c n = record { class = c; least = n }
 -- types of 002 and the unknown ones; with the least sizes of 202
 unfoldable pub kindOf : ℕ → Kind
 kindOf t =
-    cond (eqb t compression) (kindIs OpenableHolder 9)
-    (cond (eqb t guidDefined) (kindIs OpenableHolder 24)
-    (cond (eqb t freeformGuid) (kindIs GuidHeadedLeaf 20)
-    (kindIs PlainLeaf 4)))
+    cond (eqb t compression) (kindIs OpenableHolder compressionHeader)
+    (cond (eqb t guidDefined) (kindIs OpenableHolder guidDefinedHeader)
+    (cond (eqb t freeformGuid) (kindIs GuidHeadedLeaf freeformGuidHeader)
+    (kindIs PlainLeaf commonHeader)))

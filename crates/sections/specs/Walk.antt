@@ -5,6 +5,7 @@ use mathlib.Core.List.{List}
 use lib.Dec.{eqb, ltb}
 use lib.ListN.{length, getD, take, drop}
 use Rattle.sections.specs.Header.{headAt}
+use Rattle.sections.specs.Kinds.{commonHeader}
 use Rattle.sections.specs.declared.header.Head.{Head}
 use Rattle.sections.specs.declared.header.Head.the-variants.{Fault, Closed, Open}
 
@@ -40,14 +41,14 @@ abbrev pub part : (from end : ℕ) → List ℕ → List ℕ
 part from e s = take (e - from) (drop from s)
 
 -- the walk at one start, by what stands there: its fault; or the section, then the children of an open one, then its padding
--- and `rest` from the next start on. `below` is the number of levels left below this one ("205: contents to be searched
--- would lie on a ninth level"), `inner` the walk there; `base` is where the stream starts in the outer one
+-- and `rest` from the next start on. `below` is the number of levels left below this one; where it is 0, 205 ("contents to be
+-- searched would lie on a ninth level") stands instead of the holder. `inner` is the walk one level down; `base` is where the stream starts in the outer one
 unfoldable pub meet : (below : ℕ) → (inner : List ℕ → ℕ → Trace) → List ℕ → (base at : ℕ) → Head → (rest : ℕ → Trace) → Trace
 meet below inner s base at (Fault n) rest = fault n
-meet below inner s base at (Closed t e) rest = section t (base + (at + 4)) (base + e) (afterPadding s e rest)
+meet below inner s base at (Closed t e) rest = section t (base + (at + commonHeader)) (base + e) (afterPadding s e rest)
 meet below inner s base at (Open t from e) rest =
     let children = inner (part from e s) (base + from) in
-    let all = section t (base + (at + 4)) (base + e) (andThen children (afterPadding s e rest)) in
+    let all = section t (base + (at + commonHeader)) (base + e) (andThen children (afterPadding s e rest)) in
     cond (eqb below 0) (fault 205) all
 
 -- the sections of one stream from byte `at` on, at most `fuel` of them; a stream of n bytes has at most n, and
