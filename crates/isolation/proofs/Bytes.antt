@@ -40,7 +40,7 @@ erasedInRun st v [] i = false
 erasedInRun st v (c ∷ cs) i =
     erasesByte (decide st (length v) c) i || erasedInRun (step st v c .state) (step st v c .volume) cs i
 
--- two volumes of one length that agree outside a set of bytes
+-- two volumes agree outside a set of bytes
 abbrev pub Agree : (ℕ → Type 0) → List ℕ → List ℕ → Type 0
 Agree X v w = (i : ℕ) → (X i → ⊥) → getD v i 0 ≡ getD w i 0
 
@@ -153,11 +153,11 @@ module _ (X : ℕ → Type 0) (st : State) (v w : List ℕ) (c : Call) (h : leng
   unfolding step
   other-step = ap (λ (n : ℕ). perform st w (bufferOf c) (decide st n c)) (sym h)
 
-  call-answer : step st v c .answer ≡ step st w c .answer
+  pub call-answer : step st v c .answer ≡ step st w c .answer
   unfolding step
   call-answer = same-answer st (bufferOf c) (decide st (length v) c) v w ∙ sym (ap (λ (r : Result). r .answer) other-step)
 
-  call-state : step st v c .state ≡ step st w c .state
+  pub call-state : step st v c .state ≡ step st w c .state
   unfolding step
   call-state = same-state st (bufferOf c) (decide st (length v) c) v w ∙ sym (ap (λ (r : Result). r .state) other-step)
 

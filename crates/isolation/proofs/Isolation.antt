@@ -15,15 +15,17 @@ use Rattle.volume.specs.Blocks.{place, inBlock, startOf, lengthOf}
 use Rattle.volume.specs.Erase.{names}
 use Rattle.volume.specs.Header.{openVolume}
 use Rattle.volume.specs.Service.{Answer, refused, success, short, Call, getAttributes, setAttributes, getPhysicalAddress, getBlockSize, read, write, eraseBlocks, keep, erase, Effect, refusals, effect, unless, decide, moveAnswer, eraseChange, Result, perform, step}
-use Rattle.volume.specs.State.{mapOf}
+use Rattle.volume.specs.State.{mapOf, unlawful}
 use Rattle.volume.specs.declared.blocks.Place.{Place}
 use Rattle.volume.specs.declared.blocks.Place.the-variants.{At, Missing}
 use Rattle.volume.specs.declared.state.State.{State}
 use Rattle.volume.proofs.Places.{inBlock-blockAt, inBlock-of-bounds, in-one-block, found-start, found-end, place-lost}
-use Rattle.volume.proofs.ServiceLaws.{passed-success, passed-read, map-kept}
+use Rattle.volume.proofs.ServiceLaws.{passed-success, passed-read, map-kept, lawful-kept}
+use Rattle.volume.proofs.Opening.{opened-lawful}
 use Rattle.volume.proofs.Steps.{allowed-step}
 use Rattle.isolation.specs.Runs.{run, seen, isSuccess, isMoved, namesBlock, erased, Alike, NoEarlyRead, NeverErased, Isolated}
-use Rattle.isolation.proofs.Bytes.{erasesByte, isErase, copiesByte, erasedInRun, Without, Unread, same-runs}
+use Rattle.isolation.proofs.Bytes.{erasesByte, isErase, copiesByte, erasedInRun, Without, Unread, same-runs, call-answer, call-state}
+use Rattle.volume.specs.declared.header.Opened.{Opened}
 use Rattle.volume.specs.declared.header.Opening.the-variants as Opening
 
 -- ---- Booleans
@@ -222,3 +224,24 @@ pub demand-3 : (D : ℕ → Type 0) (base : ℕ) (st : State) (v w : List ℕ) (
     → openVolume w base ≡ record { answer = Opening.Success; state = st }
     → length v ≡ length w → Alike (mapOf st) D v w → NoEarlyRead D st v calls → Isolated D st v w calls
 demand-3 D base st v w calls opened-v opened-w h alike early = isolated D st v w calls h alike early
+
+-- ---- runs from opening
+
+-- a run keeps a state lawful
+run-lawful : (st : State) (v : List ℕ) (cs : List Call) → unlawful st ≡ false → unlawful (run st v cs .state) ≡ false
+unfolding run
+run-lawful st v [] ok = ok
+run-lawful st v (c ∷ cs) ok = run-lawful (step st v c .state) (step st v c .volume) cs (lawful-kept st v c ok)
+
+-- so from opening on every call of a run meets a lawful state: none is refused with 111
+pub opened-run-lawful : (base : ℕ) (st : State) (v : List ℕ) (before : List Call) → openVolume v base ≡ record { answer = Opening.Success; state = st }
+    → unlawful (run st v before .state) ≡ false
+opened-run-lawful base st v before opened =
+    run-lawful st v before
+    (subst (λ (o : Opened). unlawful (o .state) ≡ false) opened (opened-lawful v base (ap (λ (o : Opened). o .answer) opened) .0))
+
+-- later calls follow the state and never read the header, or any other byte, to decide: on volumes of one length a call answers the same and leaves
+-- the same state, whatever the bytes are
+pub decided-without-bytes : (st : State) (v w : List ℕ) (c : Call) → length v ≡ length w
+    → (step st v c .answer ≡ step st w c .answer) × (step st v c .state ≡ step st w c .state)
+decided-without-bytes st v w c h = (call-answer (λ i. ⊥) st v w c h, call-state (λ i. ⊥) st v w c h)

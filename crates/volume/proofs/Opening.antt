@@ -1,21 +1,21 @@
 -- What opening depends on, and when it succeeds.
 use Prim.Native.Nat.{ℕ, zero, suc, _+_, _-_, _*_, _/_, _%_, _≤_, _<_}
 use mathlib.Core.Path.{_≡_, refl, sym, ap, ap₂, _∙_}
-use mathlib.Core.Bool.{Bool, false, not}
+use mathlib.Core.Bool.{Bool, true, false, not, _||_}
 use mathlib.Core.List.{List, _∷_}
 use mathlib.Core.Option.{Option, none, some}
 use native.Mathlib.Omega.{arith}
-use borrow.Author.Tests.{le-ltb, eq-eqb, ne-eqb}
+use borrow.Author.Tests.{le-ltb, eq-eqb, ne-eqb, ltb-false}
 use lib.Dec.{eqb}
-use lib.ListN.{length, getD, take, drop, length-take, length-drop}
-use lib.Seq.{ext-getD, getD-take, getD-drop, take-at}
+use lib.ListN.{length, getD, take, drop, replicate, length-take, length-drop}
+use lib.Seq.{ext-getD, getD-take, getD-drop, take-at, drop-at}
 use Rattle.common.specs.Refusals.{firstRefusal, any}
-use Rattle.common.proofs.Refusals.{then-passed, then-refused, front-passed}
+use Rattle.common.proofs.Refusals.{row-passed, then-passed, then-refused, front-passed}
 use Rattle.numbers.specs.LittleEndian.{le}
 use Rattle.numbers.proofs.LittleEndian.{le-same}
 use Rattle.volume.specs.Attributes.{attributesFault, baseFault}
-use Rattle.volume.specs.BlockMap.{hasZero, sizeFault}
-use Rattle.volume.specs.State.{stateWith, stateOf, zeroState, mapOf}
+use Rattle.volume.specs.BlockMap.{hasZero, allZero, sizeFault}
+use Rattle.volume.specs.State.{stateWith, stateOf, zeroState, mapOf, unlawful}
 use Rattle.volume.specs.Header.{signature, headerLengthAt, wordsAt, wordSum, stateAt, headerLengthFault, mapFault, openRefusals, answered, stateBeside, openVolume}
 use Rattle.volume.specs.declared.state.State.{State}
 use Rattle.volume.specs.declared.header.Opening.the-variants as Opening
@@ -175,3 +175,41 @@ module _ (v guid : List ℕ) (len a n : ℕ) (words : List ℕ) (base : ℕ) (h 
   opens =
       sym (open-success v base bytes-pass (rw state-there fields-pass))
       ∙ ap (λ (st : State). let o : Opened = record { answer = Opening.Success; state = st } in o) state-there
+
+-- ---- what opening answers is lawful
+
+or-false-left : (a b : Bool) → (a || b) ≡ false → a ≡ false
+or-false-left true b e = e
+or-false-left false b e = refl
+
+all-zeros : (k : ℕ) → allZero (replicate k 0) ≡ true
+unfolding allZero
+all-zeros zero = refl
+all-zeros (suc k) = all-zeros k
+
+-- beyond its entries the state that a header gives holds zeros
+zero-beyond : (s : List ℕ) (base : ℕ) → allZero (drop (2 * stateAt s base .entries) (stateAt s base .map)) ≡ true
+unfolding stateAt stateOf stateWith
+zero-beyond s base =
+    let n : ℕ = (headerLengthAt s - 64) / 8 in
+    rw (drop-at (wordsAt (2 * n) s 56) (replicate (64 - 2 * n) 0) (2 * n) (length-wordsAt (2 * n) s 56)) (all-zeros (64 - 2 * n))
+
+lawful-from : (s : List ℕ) (st : State) → firstRefusal (openRefusals s st) ≡ none → allZero (drop (2 * st .entries) (st .map)) ≡ true
+    → (unlawful st ≡ false) × (st .length ≤ length s)
+unfolding openRefusals mapFault unlawful any
+lawful-from s st e zeros =
+    let r5 = row-passed _ _ (row-passed _ _ (row-passed _ _ (row-passed _ _ (row-passed _ _ e .1) .1) .1) .1) in
+    let r6 = row-passed _ _ (r5 .1) in
+    let r7 = row-passed _ _ (r6 .1) in
+    let r8 = row-passed _ _ (r7 .1) in
+    let r9 = row-passed _ _ (r8 .1) in
+    let r10 = row-passed _ _ (r9 .1) in
+    (rw (or-false-left (hasZero (mapOf st)) _ (r6 .0), r7 .0, r8 .0, r10 .0, zeros), ltb-false (length s) (st .length) (r9 .0))
+
+-- the state that opening answers with success keeps rule 111, and the volume is lent whole: so a service call on it gets neither 111 nor 5
+pub opened-lawful : (v : List ℕ) (base : ℕ) → openVolume v base .answer ≡ Opening.Success
+    → (unlawful (openVolume v base .state) ≡ false) × (openVolume v base .state .length ≤ length v)
+unfolding openVolume stateBeside
+opened-lawful v base opened =
+    let e = answered-success (firstRefusal (openRefusals v (stateAt v base))) opened in
+    rw e (lawful-from v (stateAt v base) e (zero-beyond v base))

@@ -108,6 +108,28 @@ pub passed-erase : (st : State) (n : ℕ) (list : List ℕ) → firstRefusal (re
 unfolding refusals
 passed-erase st n list e = passed-rows st n _ _ e
 
+-- a block that is there has a place
+pub record Placed (m : List ℕ) (b : ℕ) : Type 0 where
+  pub entry : ℕ
+  pub start : ℕ
+  pub len : ℕ
+  pub left : ℕ
+  pub there : place m b ≡ At entry start len left
+
+placed : (m : List ℕ) (b : ℕ) → b < blocks m → Placed m b
+placed m b k = go (place m b) refl
+  where
+    go : (x : Place) → place m b ≡ x → Placed m b
+    go (At e s l r) at = record { entry = e; start = s; len = l; left = r; there = at }
+    go Missing at = absurd (omega (arith, place-lost m b at))
+
+-- so has the block of a read or a write that is not refused
+pub read-placed : (st : State) (n b o : ℕ) (buffer : List ℕ) → firstRefusal (refusals st n (read b o buffer)) ≡ none → Placed (mapOf st) b
+read-placed st n b o buffer e = placed (mapOf st) b (leb-false _ _ (passed-read st n b o buffer e .last))
+
+pub write-placed : (st : State) (n b o : ℕ) (new : List ℕ) → firstRefusal (refusals st n (write b o new)) ≡ none → Placed (mapOf st) b
+write-placed st n b o new e = placed (mapOf st) b (leb-false _ _ (passed-write st n b o new e .last))
+
 -- ---- erase
 
 -- a good list names only blocks that are there
@@ -440,7 +462,7 @@ allowed-lawful st v (read b o buffer) e ok = ok
 allowed-lawful st v (write b o new) e ok = ok
 allowed-lawful st v (eraseBlocks list) e ok = ok
 
--- so no run from a lawful state ever meets 111
+-- a lawful state stays lawful
 pub lawful-kept : (st : State) (v : List ℕ) (c : Call) → unlawful st ≡ false → unlawful (step st v c .state) ≡ false
 lawful-kept st v c ok = go (firstRefusal (refusals st (length v) c)) refl
   where

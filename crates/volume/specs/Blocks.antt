@@ -50,7 +50,7 @@ blockAt (count ∷ len ∷ rest) i =
     let later = blockAt rest (i - count * len) in
     cond (ltb i (count * len)) (i / len) (count + later)
 
--- the first byte of block b; past the last block, the end of the last
+-- private to the code's contracts (the end of an erase run): the first byte of block b; past the last block, the end of the last
 unfoldable pub firstByte : List ℕ → ℕ → ℕ
 firstByte [] b = 0
 firstByte (count ∷ []) b = 0

@@ -34,6 +34,12 @@ numberOf (refused n) = n
 numberOf (success values) = 0
 numberOf (short values) = 4
 
+-- and the values that it carries
+unfoldable pub valuesOf : Answer → List ℕ
+valuesOf (refused n) = []
+valuesOf (success values) = values
+valuesOf (short values) = values
+
 -- the answer that each case of the calls' enums stands for
 unfoldable pub settingsAnswer : Settings.Settings → Answer
 settingsAnswer (Settings.the-variants.Success a) = success (a ∷ [])
@@ -66,7 +72,8 @@ pub data Call : Type 0 where
   write : ℕ → ℕ → List ℕ → Call
   eraseBlocks : List ℕ → Call
 
--- the refusals of a call on a lent volume of n bytes, first that applies: 111, then 5, then 15, then 2; the base address 111, then 3
+-- the refusals of a call on a lent volume of n bytes, first that applies: 111, then 5 (calls that are lent the volume), then 15, then 2, except
+-- as said for settings; the base address 111, then 3
 unfoldable pub refusals : State → ℕ → Call → List Row
 refusals st n getAttributes = row (unlawful st) 111 ∷ []
 refusals st n (setAttributes new) = row (unlawful st) 111 ∷ settingRefusals (st .attributes) new

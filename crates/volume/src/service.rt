@@ -2,8 +2,8 @@
 //
 // Every call answers every state and every argument. The answer, the state afterwards, and the whole
 // contents of the volume and of the reader's buffer afterwards are those of `step` in specs/Service. A call
-// costs a test of the state (a pass over at most 32 map entries), at most one scan of the map, and the bytes
-// that it moves.
+// costs a test of the state (passes over at most 32 map entries), a scan of the map for each block or erase
+// pair that it names, and the bytes that it moves.
 ghost use mathlib.Core.List.{List, []};
 ghost use mathlib.Core.Path.{_≡_};
 ghost use Prim.Native.Nat.{ℕ};
