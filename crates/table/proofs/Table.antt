@@ -51,15 +51,7 @@ stream = 0x05 ∷ 0x00 ∷ 0x00 ∷ 0x19 ∷ 0xAA ∷ 0x00 ∷ 0x00 ∷ 0x00 ∷
 pub record Table : Type 0 where
   -- A opens: GUID zero, length 2,048, attributes 0x0E3F, base 0, one entry of 4 blocks of 512
   pub p1 : openVolume sampleA 0 ≡ record { answer = Opening.Success; state = stateOf (replicate 16 0) 2048 0x0E3F 0 1 (4 ∷ 512 ∷ []) }
-  -- a call on what another left
-unfoldable pub after : Result → Call → Result
-after r call = step (r .state) (r .volume) call
-
--- a result answers document 01's number with these values
-abbrev pub Answers : Result → ℕ → List ℕ → Type 0
-Answers r n values = (numberOf (r .answer) ≡ n) × (valuesOf (r .answer) ≡ values)
-
--- A with checksum C1 57 gives 105
+  -- A with checksum C1 57 gives 105
   pub p2 : openVolume badSum 0 ≡ record { answer = Opening.Refused 105; state = zeroState }
   -- reading block 1 offset 500, 12 bytes: success, 12
   pub p3 : Answers (onA (read 1 500 (replicate 12 0))) 0 (12 ∷ [])
