@@ -1,0 +1,112 @@
+// The cases of headers: opening, writing, listing.
+use crate::print::begin;
+use crate::print::change_fields;
+use crate::print::end;
+use crate::print::field;
+use crate::print::lines_field;
+use crate::print::state_fields;
+use crate::script::item;
+use crate::script::least;
+use crate::script::number;
+use crate::script::prefix;
+use crate::script::prepare;
+use crate::script::words_of;
+use listing::Listed;
+use listing::list_volume;
+use numbers::store_bytes;
+use volume::header::Opened;
+use volume::header::Opening;
+use volume::header::open_volume;
+use volume::header_writer::Written;
+use volume::header_writer::write_header;
+
+// Opening: the lent length, the base, the header's bytes, the pattern behind them.
+pub(crate) fn open_case(case: &[u8]) {
+    let mut volume = [0u8; 4096];
+    prepare(item(case, 4), item(case, 5), &mut volume);
+    begin(case, b"open");
+    opened_fields(open_volume(prefix(&volume, number(case, 2) as usize), number(case, 3)));
+    end();
+}
+
+fn opened_fields(opened: Opened) {
+    let answer = opened.answer;
+    match answer {
+        Opening::Success => field(0),
+        Opening::Refused(n) => field(n as u64),
+    }
+    let st = opened.state;
+    state_fields(st);
+}
+
+// Writing a header: the room's length, the GUID, the volume's length, the attributes, the map's
+// words, the pattern and the bytes that the room holds before.
+pub(crate) fn write_case(case: &[u8]) {
+    let mut guid = [0u8; 16];
+    store_bytes(&mut guid, 0, item(case, 3));
+    let mut words = [0u32; 80];
+    words_of(item(case, 6), &mut words);
+    let mut before = [0u8; 512];
+    prepare(item(case, 8), item(case, 7), &mut before);
+    let mut room = [0u8; 512];
+    prepare(item(case, 8), item(case, 7), &mut room);
+    begin(case, b"write header");
+    write_in(case, guid, &words, &mut room);
+    change_fields(&before, &room);
+    end();
+}
+
+fn write_in(case: &[u8], guid: [u8; 16], words: &[u32], room: &mut [u8]) {
+    let k = least(item(case, 6).len() / 4, words.len());
+    let n = least(number(case, 2) as usize, room.len());
+    let attributes = numbers::u32_at(item(case, 5), 0);
+    let answer = write_header(
+        guid,
+        number(case, 4),
+        attributes,
+        &words[..k],
+        &mut room[..n],
+    );
+    match answer {
+        Written::Success(len) => {
+            field(0);
+            field(len as u64);
+        }
+        Written::Refused(no) => field(no as u64),
+    }
+}
+
+// Listing: the lent length, the room's length, the header's bytes, the pattern behind them.
+pub(crate) fn list_case(case: &[u8]) {
+    let mut volume = [0u8; 4096];
+    prepare(item(case, 4), item(case, 5), &mut volume);
+    let mut room = [0u8; 1024];
+    begin(case, b"list");
+    list_in(case, prefix(&volume, number(case, 2) as usize), &mut room);
+    end();
+}
+
+fn list_in(case: &[u8], volume: &[u8], room: &mut [u8]) {
+    let n = least(number(case, 3) as usize, room.len());
+    let answer = list_volume(volume, &mut room[..n]);
+    match answer {
+        Listed::Success(len) => {
+            field(0);
+            field(len as u64);
+        }
+        Listed::Refused(no) => field(no as u64),
+    }
+    lines_field(until_zero(room));
+}
+
+// The bytes before the first zero.
+fn until_zero<'a>(s: &'a [u8]) -> &'a [u8] {
+    let mut i = 0;
+    while i < s.len() {
+        if s[i] == 0 {
+            return prefix(s, i);
+        }
+        i += 1;
+    }
+    s
+}

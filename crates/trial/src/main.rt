@@ -1,0 +1,46 @@
+// Runs a script of calls of the library and prints what each one answered, a line for each call. The
+// script, on standard input, and the lines that are expected are made from tests/cases by a model
+// that is independent of this code; tests/README.md has the format of both.
+mod calls;
+mod headers;
+mod print;
+mod script;
+mod streams;
+
+use crate::calls::run_case;
+use crate::headers::list_case;
+use crate::headers::open_case;
+use crate::headers::write_case;
+use crate::script::item;
+use crate::script::number;
+use crate::streams::append_case;
+use crate::streams::search_case;
+
+fn main() {
+    let mut input = [0u8; 262144];
+    let n = io::read_full(libc::STDIN_FILENO, &mut input);
+    run_script(&input[..n]);
+}
+
+// A script is a list: the number of cases, then the cases.
+fn run_script(script: &[u8]) {
+    let cases = number(script, 0);
+    let mut k = 0;
+    while k < cases {
+        k += 1;
+        one_case(item(script, k as usize));
+    }
+}
+
+// A case is a list: its name, what is called, and the arguments.
+fn one_case(case: &[u8]) {
+    let called = number(case, 1);
+    match called {
+        0 => open_case(case),
+        1 => write_case(case),
+        2 => list_case(case),
+        3 => run_case(case),
+        4 => search_case(case),
+        _ => append_case(case),
+    }
+}

@@ -1,0 +1,274 @@
+"""Firmware volumes, as the scope document describes them: opening, header
+writing and the seven calls of the block service.
+
+Every function answers (number, values...): 0 for success, 4 for short, else
+the refusal number. Lent bytes are bytearrays and are changed in place.
+"""
+
+from collections import namedtuple
+
+READ_DISABLE, READ_ENABLE, READ_STATUS = 0x1, 0x2, 0x4
+WRITE_DISABLE, WRITE_ENABLE, WRITE_STATUS = 0x8, 0x10, 0x20
+LOCK_POSSIBLE, LOCKED = 0x40, 0x80
+STICKY_WRITE, MEMORY_MAPPED, ERASE_ONE = 0x200, 0x400, 0x800
+ALIGNMENT_SUPPORTED, ALIGNMENTS = 0x8000, 0xFFFF0000
+FORBIDDEN = 0x100 | 0x1000 | 0x2000 | 0x4000
+
+MAX_ENTRIES, MAX_BLOCKS, MAX_LENGTH = 32, 65536, 16777216
+SIGNATURE = bytes([0x5F, 0x46, 0x56, 0x48])
+END_OF_LIST = 2**64 - 1
+
+# entries is the number of map entries that count; map holds 64 words, a count
+# and a length for each entry, zero beyond the entries.
+State = namedtuple("State", "guid length attributes entries map base")
+
+
+def number(data, place, width):
+    return int.from_bytes(data[place:place + width], "little")
+
+
+def word_sum(header):
+    return sum(number(header, i, 2) for i in range(0, len(header), 2)) % 65536
+
+
+def pairs_of(words):
+    return [(words[i], words[i + 1]) for i in range(0, len(words) - 1, 2)]
+
+
+def has_zero_word(pairs):
+    return any(count == 0 or length == 0 for count, length in pairs)
+
+
+def breaks_107(pairs, length):
+    return (len(pairs) < 1
+            or len(pairs) > MAX_ENTRIES
+            or sum(count for count, _ in pairs) > MAX_BLOCKS
+            or length > MAX_LENGTH
+            or sum(count * size for count, size in pairs) != length
+            or 64 + 8 * len(pairs) > length)
+
+
+def breaks_108(attributes):
+    if attributes & FORBIDDEN:
+        return True
+    return not attributes & ALIGNMENT_SUPPORTED and attributes & ALIGNMENTS != 0
+
+
+def breaks_110(attributes, base):
+    return attributes & MEMORY_MAPPED != 0 and base % 8 != 0
+
+
+def open_volume(data, base):
+    """(number, state or None)"""
+    if len(data) < 72:
+        return 101, None
+    if data[40:44] != SIGNATURE:
+        return 102, None
+    if data[55] != 1:
+        return 103, None
+    header_length = number(data, 48, 2)
+    if header_length % 8 or not 72 <= header_length <= 320 or header_length > len(data):
+        return 104, None
+    if word_sum(data[:header_length]) != 0:
+        return 105, None
+    words = [number(data, i, 4) for i in range(56, header_length, 4)]
+    pairs = pairs_of(words)
+    if has_zero_word(pairs[:-1]) or pairs[-1] != (0, 0):
+        return 106, None
+    length, attributes = number(data, 32, 8), number(data, 44, 4)
+    if breaks_107(pairs[:-1], length):
+        return 107, None
+    if breaks_108(attributes):
+        return 108, None
+    if len(data) < length:
+        return 109, None
+    if breaks_110(attributes, base):
+        return 110, None
+    table = words[:-2] + [0] * (64 - len(words[:-2]))
+    return 0, State(bytes(data[16:32]), length, attributes, len(pairs) - 1, table, base)
+
+
+def header_bytes(guid, length, attributes, words):
+    """The header with its checksum worked out; no test of the values."""
+    header = bytearray(64 + 4 * len(words))
+    header[16:32] = guid
+    header[32:40] = length.to_bytes(8, "little")
+    header[40:44] = SIGNATURE
+    header[44:48] = attributes.to_bytes(4, "little")
+    header[48:50] = len(header).to_bytes(2, "little")
+    header[55] = 1
+    for i, word in enumerate(words):
+        header[56 + 4 * i:60 + 4 * i] = word.to_bytes(4, "little")
+    header[50:52] = ((-word_sum(header)) % 65536).to_bytes(2, "little")
+    return header
+
+
+def write_header(room, guid, length, attributes, words):
+    """(number, header length or 0)"""
+    if any(word == 0 for word in words) or len(words) % 2:
+        return 106, 0
+    if breaks_107(pairs_of(words), length):
+        return 107, 0
+    if breaks_108(attributes):
+        return 108, 0
+    size = 64 + 4 * len(words)
+    if len(room) < size:
+        return 5, 0
+    room[:size] = header_bytes(guid, length, attributes, words)
+    return 0, size
+
+
+def unlawful(state):
+    """111: the state breaks 106, 107, 108 or 110, or is not zero beyond its entries."""
+    pairs = pairs_of(state.map)[:state.entries]
+    return (state.entries > MAX_ENTRIES
+            or has_zero_word(pairs)
+            or breaks_107(pairs, state.length)
+            or breaks_108(state.attributes)
+            or breaks_110(state.attributes, state.base)
+            or any(state.map[2 * state.entries:]))
+
+
+def entries_of(state):
+    """(first block, count, block length, first byte) of each map entry"""
+    first, place = 0, 0
+    for count, length in pairs_of(state.map)[:state.entries]:
+        yield first, count, length, place
+        first, place = first + count, place + count * length
+
+
+def find_block(state, block):
+    """(first byte, length, blocks to the end of the entry) or None"""
+    for first, count, length, place in entries_of(state):
+        if first <= block < first + count:
+            return place + (block - first) * length, length, first + count - block
+    return None
+
+
+def get_attributes(state):
+    """(number, settings)"""
+    return (111, 0) if unlawful(state) else (0, state.attributes)
+
+
+def set_attributes(state, wanted):
+    """(number, settings, state)"""
+    if unlawful(state):
+        return 111, 0, state
+    old = state.attributes
+    changed = old ^ wanted
+    if changed & ~(READ_STATUS | WRITE_STATUS | LOCKED):
+        return 2, 0, state
+    if old & LOCKED and changed:
+        return 15, 0, state
+    for status, raise_by, clear_by in ((READ_STATUS, READ_ENABLE, READ_DISABLE),
+                                       (WRITE_STATUS, WRITE_ENABLE, WRITE_DISABLE),
+                                       (LOCKED, LOCK_POSSIBLE, 0)):
+        capability = raise_by if wanted & status else clear_by
+        if changed & status and not old & capability:
+            return 2, 0, state
+    return 0, wanted, state._replace(attributes=wanted)
+
+
+def get_physical_address(state):
+    """(number, base)"""
+    if unlawful(state):
+        return 111, 0
+    if not state.attributes & MEMORY_MAPPED:
+        return 3, 0
+    return 0, state.base
+
+
+def get_block_size(state, block):
+    """(number, block length, blocks to the end of the entry)"""
+    if unlawful(state):
+        return 111, 0, 0
+    found = find_block(state, block)
+    return (2, 0, 0) if found is None else (0, found[1], found[2])
+
+
+def refused(state, volume, status):
+    """111, 5 or 15, which come before any look at the arguments; else 0"""
+    if unlawful(state):
+        return 111
+    if len(volume) < state.length:
+        return 5
+    return 0 if state.attributes & status else 15
+
+
+def room_in_block(length, offset, size):
+    return min(size, length - offset if offset <= length else 0)
+
+
+def read(state, volume, block, offset, buffer):
+    """(number, count)"""
+    no = refused(state, volume, READ_STATUS)
+    if no:
+        return no, 0
+    found = find_block(state, block)
+    if found is None:
+        return 2, 0
+    count = room_in_block(found[1], offset, len(buffer))
+    place = found[0] + offset
+    buffer[:count] = volume[place:place + count]
+    return (0 if count == len(buffer) else 4), count
+
+
+def write(state, volume, block, offset, data):
+    """(number, count)"""
+    no = refused(state, volume, WRITE_STATUS)
+    if no:
+        return no, 0
+    found = find_block(state, block)
+    if found is None:
+        return 2, 0
+    count = room_in_block(found[1], offset, len(data))
+    place = found[0] + offset
+    for i in range(count):
+        old, new = volume[place + i], data[i]
+        if state.attributes & STICKY_WRITE:
+            new = old & new if state.attributes & ERASE_ONE else old | new
+        volume[place + i] = new
+    return (0 if count == len(data) else 4), count
+
+
+def erase_pairs(words, blocks):
+    """the pairs before the terminator, or None for a bad list"""
+    pairs = []
+    for i in range(0, len(words), 2):
+        if words[i] == END_OF_LIST:
+            return pairs
+        if i + 1 == len(words):
+            return None
+        first, count = words[i], words[i + 1]
+        if count == 0 or first + count > blocks:
+            return None
+        pairs.append((first, count))
+    return None
+
+
+def erase_blocks(state, volume, words):
+    """(number,)"""
+    no = refused(state, volume, WRITE_STATUS)
+    if no:
+        return (no,)
+    blocks = sum(count for _, count, _, _ in entries_of(state))
+    pairs = erase_pairs(words, blocks)
+    if pairs is None:
+        return (2,)
+    value = 0xFF if state.attributes & ERASE_ONE else 0
+    for first, count in pairs:
+        for block in range(first, first + count):
+            place, length, _ = find_block(state, block)
+            volume[place:place + length] = bytes([value]) * length
+    return (0,)
+
+
+def listing(data):
+    """The lister's text for this standard input."""
+    no, state = open_volume(data[:65536], 0)
+    if no:
+        return "refused\t%d\n" % no
+    text = "volume\t%d\t%d\t%d\n" % (state.length, state.attributes, state.entries)
+    for first, count, length, _ in entries_of(state):
+        text += "map\t%d\t%d\t%d\n" % (first, count, length)
+    return text

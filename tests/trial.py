@@ -1,0 +1,196 @@
+"""The script of the program `trial`, and the lines that it must print.
+
+A case holds its part of the script and its expected lines. The lines come from
+the model alone. README.md beside this file has both formats.
+"""
+
+from collections import namedtuple
+
+from model import sections, volume
+
+Case = namedtuple("Case", "name script lines numbers")     # numbers: the answer of each line
+
+WORKING = 4096      # bytes of a working volume
+ROOM = 512          # bytes of a header's room and of a section buffer
+ERASED = (0xFF00, 0)
+PATTERN = (0x1234, 1801)
+
+
+# The script: lists of items, each an 8-byte length and then its bytes.
+
+def number(n):
+    return n.to_bytes(8, "little")
+
+
+def items(*parts):
+    return b"".join(number(len(part)) + bytes(part) for part in parts)
+
+
+def words(numbers, width):
+    return b"".join(n.to_bytes(width, "little") for n in numbers)
+
+
+def prepared(own, pattern, size):
+    start, step = pattern
+    lent = bytearray((start + i * step) % 65536 // 256 for i in range(size))
+    lent[:len(own)] = own
+    return lent
+
+
+def pattern_item(pattern):
+    return words(pattern, 2)
+
+
+# The lines: fields parted by tabs.
+
+def line(name, call, *fields):
+    return "\t".join([name, call] + [str(f) for f in fields])
+
+
+def shown(data):
+    return bytes(data[:16]).hex()
+
+
+def state_fields(state):
+    if state is None:
+        return [0, 0, 0, 0, "00" * 16, ""]
+    map_words = "".join("%d:%d," % (i, w) for i, w in enumerate(state.map) if w)
+    return [state.length, state.attributes, state.entries, state.base, state.guid.hex(), map_words]
+
+
+def checksum(data):
+    total = 0
+    for byte in data:
+        total = (total * 31 + byte) % 4294967291
+    return total
+
+
+def change_fields(before, after):
+    places = [i for i in range(len(after)) if before[i] != after[i]]
+    if not places:
+        return [0, checksum(after)]
+    first, last = places[0], places[-1]
+    return [len(places), first, last, shown(after[first:last + 1]), checksum(after)]
+
+
+def answer_fields(no, *values):
+    """Values stand beside success and short alone."""
+    return [no] + (list(values) if no in (0, 4) else [])
+
+
+# The cases.
+
+def opening(name, own, lent, base=0, pattern=ERASED):
+    data = prepared(own, pattern, WORKING)[:lent]
+    no, state = volume.open_volume(data, base)
+    script = items(name.encode(), number(0), number(lent), number(base), own, pattern_item(pattern))
+    return Case(name, script, [line(name, "open", no, *state_fields(state))], [no])
+
+
+def header_writing(name, room, guid, length, attributes, map_words, pattern=PATTERN):
+    before = prepared(b"", pattern, ROOM)
+    after = bytearray(before)
+    part = after[:room]
+    no, size = volume.write_header(part, guid, length, attributes, map_words)
+    after[:room] = part
+    script = items(name.encode(), number(1), number(room), guid, number(length),
+                   words([attributes], 4), words(map_words, 4), pattern_item(pattern), b"")
+    fields = answer_fields(no, size) + change_fields(before, after)
+    return Case(name, script, [line(name, "write header", *fields)], [no])
+
+
+def listing(name, own, lent, room=1024, pattern=ERASED):
+    text = volume.listing(prepared(own, pattern, WORKING)[:lent])
+    fields = [0, len(text), text.replace("\n", "|")] if len(text) <= room else [5, ""]
+    script = items(name.encode(), number(2), number(lent), number(room), own, pattern_item(pattern))
+    return Case(name, script, [line(name, "list", *fields)], [fields[0]])
+
+
+def state_item(state):
+    return items(state.guid, number(state.length), words([state.attributes], 4),
+                 number(state.base), number(state.entries), words(state.map, 4))
+
+
+# What a call gives: its word, the arguments shown, the answer, further fields, the state, its script.
+Made = namedtuple("Made", "word shown answer more state script")
+
+
+def state_call(state, which, *args):
+    """A call that is not lent the volume."""
+    if which == "settings":
+        return Made("get attributes", [], volume.get_attributes(state), [], state, items(number(0)))
+    if which == "set":
+        no, value, after = volume.set_attributes(state, *args)
+        return Made("set attributes", [], (no, value), state_fields(after), after, items(number(1), words(args, 4)))
+    if which == "address":
+        return Made("get physical address", [], volume.get_physical_address(state), [], state, items(number(2)))
+    return Made("get block size", args, volume.get_block_size(state, *args), [], state, items(number(3), number(*args)))
+
+
+def volume_call(state, lent_bytes, which, lent, *args):
+    """A call that is lent the volume, which is changed in place."""
+    part = lent_bytes[:lent]
+    if which == "read":
+        block, offset, size = args
+        old = bytes((i * 5 + 0xA1) % 256 for i in range(size))
+        buffer = bytearray(old)
+        answer = volume.read(state, part, block, offset, buffer)
+        script = items(number(4), number(lent), number(block), number(offset), old)
+        return Made("read", args, answer, change_fields(old, buffer), state, script)
+    if which == "write":
+        block, offset, data = args
+        answer = volume.write(state, part, block, offset, data)
+        lent_bytes[:lent] = part
+        script = items(number(5), number(lent), number(block), number(offset), data)
+        return Made("write", [block, offset, len(data)], answer, [], state, script)
+    answer = volume.erase_blocks(state, part, *args)
+    lent_bytes[:lent] = part
+    return Made("erase blocks", [len(*args)], answer, [], state, items(number(6), number(lent), words(*args, 8)))
+
+
+def run(name, own, calls, lent=None, base=0, pattern=PATTERN, state=None):
+    """A run of calls over one volume, from the state that opening answers or a given one."""
+    lent_bytes = prepared(own, pattern, WORKING)
+    lent = WORKING if lent is None else lent
+    given = b"" if state is None else state_item(state)
+    if state is None:
+        no, state = volume.open_volume(lent_bytes[:lent], base)
+        assert no == 0, (name, no)
+    lines, scripts, numbers = [], [number(len(calls))], []
+    for call in calls:
+        before = bytes(lent_bytes)
+        lent_call = call[0] in ("read", "write", "erase")
+        made = volume_call(state, lent_bytes, *call) if lent_call else state_call(state, *call)
+        state = made.state
+        scripts.append(made.script)
+        numbers.append(made.answer[0])
+        fields = [*made.shown, *answer_fields(*made.answer), *made.more, *change_fields(before, lent_bytes)]
+        lines.append(line(name, made.word, *fields))
+    script = items(name.encode(), number(3), number(lent), number(base), own,
+                   pattern_item(pattern), given, items(*scripts))
+    return Case(name, script, lines, numbers)
+
+
+def search_fields(stream, kind, instance):
+    no, first, end = sections.search(stream, kind, instance)
+    return [kind, instance] + answer_fields(no, first, end) + ([shown(stream[first:end])] if no == 0 else [])
+
+
+def searching(name, stream, kind, instance):
+    script = items(name.encode(), number(4), stream, bytes([kind]), number(instance))
+    fields = search_fields(stream, kind, instance)
+    return Case(name, script, [line(name, "search", *fields)], [fields[2]])
+
+
+def appending(name, room, used, kind, body, stream=b"", instance=0, pattern=PATTERN):
+    before = prepared(stream, pattern, ROOM)
+    after = bytearray(before)
+    part = after[:room]
+    no, count = sections.append(part, used, kind, body)
+    after[:room] = part
+    shown_stream = after[:count if no == 0 else used]
+    fields = answer_fields(no, count) + change_fields(before, after)
+    script = items(name.encode(), number(5), number(room), number(used), bytes([kind]), body,
+                   stream, pattern_item(pattern), number(instance))
+    fields += search_fields(bytes(shown_stream), kind, instance)
+    return Case(name, script, [line(name, "append", *fields)], [no])
