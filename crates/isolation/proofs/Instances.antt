@@ -23,8 +23,8 @@ use Rattle.volume.specs.State.{mapOf, stateOf, stateWith, unlawful}
 use Rattle.volume.specs.declared.state.State.{State}
 use Rattle.isolation.specs.Runs.{run, isSuccess, isMoved, namesBlock, erased, Alike, NoEarlyRead, Isolated}
 use Rattle.isolation.specs.SampleA.{headerA, sampleA}
-use Rattle.isolation.proofs.Isolation.{demand-3}
 use Rattle.volume.specs.declared.header.Opening.the-variants as Opening
+use Rattle.isolation.proofs.Isolation.{demand-3}
 
 -- the hypothesis on reads, call by call: a set loses the blocks that a call erased, and a read in what is left is refused
 unfoldable ReadsAllowed : (ℕ → Type 0) → State → List ℕ → List Call → Type 0

@@ -19,14 +19,15 @@ use Rattle.volume.specs.State.{mapOf, unlawful}
 use Rattle.volume.specs.declared.blocks.Place.{Place}
 use Rattle.volume.specs.declared.blocks.Place.the-variants.{At, Missing}
 use Rattle.volume.specs.declared.state.State.{State}
-use Rattle.volume.proofs.Places.{inBlock-blockAt, inBlock-of-bounds, in-one-block, found-start, found-end, place-lost}
-use Rattle.volume.proofs.ServiceLaws.{passed-success, passed-read, map-kept, lawful-kept}
-use Rattle.volume.proofs.Opening.{opened-lawful}
-use Rattle.volume.proofs.Steps.{allowed-step}
 use Rattle.isolation.specs.Runs.{run, seen, isSuccess, isMoved, namesBlock, erased, Alike, NoEarlyRead, NeverErased, Isolated}
-use Rattle.isolation.proofs.Bytes.{erasesByte, isErase, copiesByte, erasedInRun, Without, Unread, same-runs, call-answer, call-state}
 use Rattle.volume.specs.declared.header.Opened.{Opened}
 use Rattle.volume.specs.declared.header.Opening.the-variants as Opening
+use Rattle.volume.proofs.Places.{inBlock-blockAt, inBlock-of-bounds, in-one-block, found-start, found-end, place-lost}
+use Rattle.volume.proofs.StepLaws.{passed-success, passed-read}
+use Rattle.volume.proofs.ServiceLaws.{map-kept, lawful-kept}
+use Rattle.volume.proofs.Opening.{opened-lawful}
+use Rattle.volume.proofs.Steps.{allowed-step}
+use Rattle.isolation.proofs.Bytes.{erasesByte, isErase, copiesByte, erasedInRun, Without, Unread, same-runs, call-answer, call-state}
 
 -- ---- Booleans
 

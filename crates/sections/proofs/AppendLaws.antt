@@ -5,12 +5,12 @@ use mathlib.Core.List.{List, [], _∷_, _++_, append-assoc, append-nil}
 use native.Mathlib.Nat.{add-zero}
 use native.Mathlib.Numerals.{add-one}
 use native.Mathlib.Omega.{arith}
+use borrow.Author.Tests.{lt-ltb, le-ltb, eq-eqb, ne-eqb}
 use lib.ListN.{length, getD, take, drop, set, replicate, length-append, length-drop, length-replicate, drop-of-length-le}
 use lib.Seq.{sets, length-sets, sets-eq, drop-cons, drop-drop, length-take-le}
+use Rattle.common.specs.Refusals.{firstRefusal}
 use Rattle.numbers.specs.LittleEndian.{leBytes}
 use Rattle.numbers.proofs.LittleEndian.{length-leBytes}
-use borrow.Author.Tests.{lt-ltb, le-ltb, eq-eqb, ne-eqb}
-use Rattle.common.specs.Refusals.{firstRefusal}
 use Rattle.sections.specs.Kinds.{compression, guidDefined, kindOf}
 use Rattle.sections.specs.Walk.{aligned, streamLimit}
 use Rattle.sections.specs.Append.{leafSize, sizeLimit, usedAfter, leaf, added, appendRefusals, orRefused, appendOf, bufferAfter, numberOf}

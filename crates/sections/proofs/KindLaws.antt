@@ -2,8 +2,8 @@
 use Prim.Native.Nat.{ℕ, _≤_}
 use mathlib.Core.Path.{_≡_, refl}
 use mathlib.Core.Bool.{Bool, true, false, cond}
-use lib.Dec.{eqb, lit≤}
 use borrow.Author.Tests.{ne-eqb}
+use lib.Dec.{eqb, lit≤}
 use Rattle.sections.specs.Kinds.{compression, guidDefined, freeformGuid, kindIs, kindOf}
 use Rattle.sections.specs.Header.{isHolder}
 use Rattle.sections.specs.declared.kinds.Class.the-variants.{GuidHeadedLeaf, PlainLeaf}

@@ -1,5 +1,6 @@
 pub mod AppendLaws
 pub mod AppendedStream
+pub mod AppendedWalk
 pub mod HeaderLaws
 pub mod KindLaws
 pub mod SearchLaws

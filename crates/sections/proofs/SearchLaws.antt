@@ -7,9 +7,9 @@ use mathlib.Core.List.{List, [], _∷_, _++_}
 use mathlib.Core.Logic.{_↔_}
 use mathlib.Core.Option.{Option, none, some}
 use native.Mathlib.Omega.{arith}
+use borrow.Author.Tests.{lt-ltb, le-ltb, ltb-true, ltb-false}
 use lib.Dec.{eqb, ltb}
 use lib.ListN.{length, getElem?, length-take}
-use borrow.Author.Tests.{lt-ltb, le-ltb, ltb-true, ltb-false}
 use Rattle.sections.specs.Header.{headAt}
 use Rattle.sections.specs.Walk.{Trace, done, fault, section, andThen, aligned, zeros, part, afterPadding, meet, siblings, walk, streamLimit, streamWalk}
 use Rattle.sections.specs.Seek.{run, answered}

@@ -5,9 +5,9 @@ use mathlib.Core.Path.{_≡_, refl, sym}
 use mathlib.Core.Bool.{Bool, true, false}
 use mathlib.Core.Option.{some}
 use native.Mathlib.Omega.{arith}
+use borrow.Author.Tests.{ne-eqb}
 use lib.Dec.{eqb}
 use lib.ListN.{getElem?}
-use borrow.Author.Tests.{ne-eqb}
 use Rattle.sections.specs.Walk.{Trace, done, fault, section, andThen}
 use Rattle.sections.specs.Seek.{visited, halted, run, answered}
 use Rattle.sections.specs.Search.{sections, firstFault, ofType, shown}

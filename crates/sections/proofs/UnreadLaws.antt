@@ -7,10 +7,10 @@ use mathlib.Core.Bool.{Bool, true, false}
 use mathlib.Core.List.{List}
 use mathlib.Core.Logic.{_⊎_, inl, inr}
 use native.Mathlib.Omega.{arith}
+use borrow.Author.Tests.{ltb-true, ltb-false}
 use lib.Dec.{ltb}
 use lib.ListN.{length, getD, drop, length-take, length-drop, List·getD-eq-default}
 use lib.Seq.{getD-take, getD-drop}
-use borrow.Author.Tests.{ltb-true, ltb-false}
 use Rattle.sections.specs.Kinds.{kindOf}
 use Rattle.sections.specs.Header.{typeAt, sizeAt, isHolder, contentsAt, packed, headAt}
 use Rattle.sections.specs.Walk.{Trace, done, aligned, zeros, part, afterPadding, meet, siblings, walk, streamWalk}

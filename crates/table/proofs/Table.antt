@@ -2,8 +2,8 @@
 -- Every row on a volume starts from opening sample A at base 0.
 use Prim.Native.Nat.{ℕ}
 use mathlib.Core.Path.{_≡_, refl}
-use mathlib.Core.List.{List, [], _∷_, _++_}
-use lib.ListN.{getD, take, drop, set, replicate}
+use mathlib.Core.List.{List, [], _∷_}
+use lib.ListN.{set, replicate}
 use Rattle.common.specs.Refusals.{firstRefusal, any}
 use Rattle.numbers.specs.LittleEndian.{le}
 use Rattle.volume.specs.Access.{countMoved, writtenByte}

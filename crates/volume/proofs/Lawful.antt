@@ -8,8 +8,8 @@ use Rattle.common.proofs.Refusals.{any-passed}
 use Rattle.volume.specs.Attributes.{attributesFault}
 use Rattle.volume.specs.BlockMap.{blocks, bytes, hasZero, sizeFault}
 use Rattle.volume.specs.State.{mapOf, unlawful}
-use Rattle.volume.proofs.BlockMap.{size-passed}
 use Rattle.volume.specs.declared.state.State.{State}
+use Rattle.volume.proofs.BlockMap.{size-passed}
 
 pub record Lawful (st : State) : Type 0 where
   pub nonzero : hasZero (mapOf st) ≡ false

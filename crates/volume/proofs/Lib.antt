@@ -1,4 +1,5 @@
 pub mod BlockMap
+pub mod BlockRuns
 pub mod Edit
 pub mod EraseLists
 pub mod HeaderLaws
@@ -10,4 +11,5 @@ pub mod Places
 pub mod RoundTrip
 pub mod ServiceLaws
 pub mod SettingRules
+pub mod StepLaws
 pub mod Steps

@@ -15,8 +15,8 @@ use Rattle.volume.specs.Blocks.{place, startOf, lengthOf, leftOf, blockA
 use Rattle.volume.specs.Erase.{names, erasedByte}
 use Rattle.volume.specs.State.{mapOf, unlawful}
 use Rattle.volume.specs.declared.blocks.Place.the-variants.{At}
-use Rattle.volume.proofs.Edit.{edit-same}
 use Rattle.volume.specs.declared.state.State.{State}
+use Rattle.volume.proofs.Edit.{edit-same}
 
 -- a table's first row applies, or the table is that of the rows after it
 pub row-applies : (t : Bool) (n : ℕ) (rest : List Row) → t ≡ true → firstRefusal (row t n ∷ rest) ≡ some n

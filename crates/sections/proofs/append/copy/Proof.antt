@@ -2,11 +2,11 @@
 use Prim.Native.Nat.{_≤_, _-_}
 use mathlib.Core.Path.{_≡_, sym, _∙_}
 use native.Mathlib.Omega.{arith}
-use lib.ListN.{length, drop, length-set}
-use lib.Seq.{sets}
-use denote.Ref.{now}
 use borrow.Author.Needs.{needs}
 use borrow.Author.Tests.{ltb-true, ltb-false}
+use denote.Ref.{now}
+use lib.ListN.{length, drop, length-set}
+use lib.Seq.{sets}
 use Rattle.common.proofs.Lists.{sets-past}
 use Rattle.sections.proofs.AppendLaws.{copy-more, copy-end}
 use Rattle.sections.proofs.append.copy.Statement.{statement}

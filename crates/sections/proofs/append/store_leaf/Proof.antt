@@ -1,9 +1,9 @@
 -- `store_leaf` meets its contract: four runs of stores, one after another, are one.
 use Prim.Native.Nat.{_+_, _-_}
 use native.Mathlib.Omega.{arith}
-use lib.ListN.{length}
-use denote.Ref.{now}
 use borrow.Author.Needs.{needs}
+use denote.Ref.{now}
+use lib.ListN.{length}
 use Rattle.sections.proofs.AppendLaws.{leaf-stored}
 use Rattle.sections.proofs.append.store_leaf.Statement.{statement}
 use Rattle.sections.proofs.append.store_leaf.Tie as tie

@@ -3,11 +3,11 @@
 use Prim.Native.Nat.{_-_, ℕ, _<_}
 use mathlib.Core.Path.{sym, ap, _∙_}
 use native.Mathlib.Omega.{arith}
-use lib.ListN.{length}
 use borrow.Author.Needs.{needs}
 use borrow.Author.Tests.{not-true, not-false}
 use borrow.Fn.Kinds.{In}
 use borrow.Fn.PlainCycle.{Measures, is, falls, and}
+use lib.ListN.{length}
 use Rattle.sections.specs.Seek.{halted, run}
 use Rattle.sections.specs.Walk.{walk}
 use Rattle.sections.proofs.HeaderLaws.{closed-within, open-within}

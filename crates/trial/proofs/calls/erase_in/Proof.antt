@@ -1,8 +1,8 @@
 -- `trial::calls::erase_in` is safe: what it lends lies within the volume and the words.
-use borrow.Author.Needs.{needs}
-use lib.Seq.{length-take-le}
 use mathlib.Core.Path.{sym}
 use native.Mathlib.Omega.{arith}
+use borrow.Author.Needs.{needs}
+use lib.Seq.{length-take-le}
 use Rattle.trial.proofs.calls.erase_in.Statement.{statement}
 use Rattle.trial.proofs.calls.erase_in.Tie as tie
 

@@ -1,8 +1,8 @@
 -- `trial::calls::read_in` is safe: what it lends lies within the buffer.
-use borrow.Author.Needs.{needs}
-use lib.Seq.{length-take-le}
 use mathlib.Core.Path.{sym}
 use native.Mathlib.Omega.{arith}
+use borrow.Author.Needs.{needs}
+use lib.Seq.{length-take-le}
 use Rattle.trial.proofs.calls.read_in.Statement.{statement}
 use Rattle.trial.proofs.calls.read_in.Tie as tie
 

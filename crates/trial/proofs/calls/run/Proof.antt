@@ -1,8 +1,8 @@
 -- `trial::calls::run` is safe and ends: a call keeps the lengths of the volume and of its copy.
 use Prim.Native.Nat.{_≤_, _-_}
+use mathlib.Core.Path.{_≡_}
 use borrow.Author.Needs.{needs}
 use lib.ListN.{length}
-use mathlib.Core.Path.{_≡_}
 use Rattle.trial.proofs.calls.run.Statement.{statement}
 use Rattle.trial.proofs.calls.run.Tie as tie
 

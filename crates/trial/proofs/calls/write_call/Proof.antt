@@ -1,8 +1,8 @@
 -- `trial::calls::write_call` is safe: what it lends lies within the volume.
-use borrow.Author.Needs.{needs}
-use lib.Seq.{length-take-le}
 use mathlib.Core.Path.{sym}
 use native.Mathlib.Omega.{arith}
+use borrow.Author.Needs.{needs}
+use lib.Seq.{length-take-le}
 use Rattle.trial.proofs.calls.write_call.Statement.{statement}
 use Rattle.trial.proofs.calls.write_call.Tie as tie
 

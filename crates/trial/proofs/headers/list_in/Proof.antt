@@ -1,8 +1,8 @@
 -- `trial::headers::list_in` is safe: what it lends lies within the room.
-use borrow.Author.Needs.{needs}
-use lib.Seq.{length-take-le}
 use mathlib.Core.Path.{sym}
 use native.Mathlib.Omega.{arith}
+use borrow.Author.Needs.{needs}
+use lib.Seq.{length-take-le}
 use Rattle.trial.proofs.headers.list_in.Statement.{statement}
 use Rattle.trial.proofs.headers.list_in.Tie as tie
 

@@ -1,8 +1,8 @@
 -- `trial::headers::write_in` is safe: what it lends lies within the words and the room.
-use borrow.Author.Needs.{needs}
-use lib.Seq.{length-take-le}
 use mathlib.Core.Path.{sym}
 use native.Mathlib.Omega.{arith}
+use borrow.Author.Needs.{needs}
+use lib.Seq.{length-take-le}
 use Rattle.trial.proofs.headers.write_in.Statement.{statement}
 use Rattle.trial.proofs.headers.write_in.Tie as tie
 

@@ -1,9 +1,9 @@
 -- `trial::print::changes` is safe and ends: the count never passes the number of bytes seen.
 use Prim.Native.Nat.{_≤_, _-_}
-use borrow.Author.Needs.{needs}
-use lib.ListN.{length}
 use mathlib.Core.Logic.{⊎-elim}
 use native.Mathlib.Omega.{arith}
+use borrow.Author.Needs.{needs}
+use lib.ListN.{length}
 use Rattle.trial.proofs.print.changes.Statement.{statement}
 use Rattle.trial.proofs.print.changes.Tie as tie
 

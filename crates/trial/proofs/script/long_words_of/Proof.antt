@@ -1,9 +1,9 @@
 -- `trial::script::long_words_of` is safe and ends: stores keep the length.
 use Prim.Native.Nat.{_≤_, _-_}
-use borrow.Author.Needs.{needs}
-use lib.ListN.{length, length-set}
 use mathlib.Core.Path.{_≡_}
 use native.Mathlib.Omega.{arith}
+use borrow.Author.Needs.{needs}
+use lib.ListN.{length, length-set}
 use Rattle.trial.proofs.script.long_words_of.Statement.{statement}
 use Rattle.trial.proofs.script.long_words_of.Tie as tie
 

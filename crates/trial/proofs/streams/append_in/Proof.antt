@@ -1,8 +1,8 @@
 -- `trial::streams::append_in` is safe: what it lends lies within the buffer.
-use borrow.Author.Needs.{needs}
-use lib.Seq.{length-take-le}
 use mathlib.Core.Path.{sym}
 use native.Mathlib.Omega.{arith}
+use borrow.Author.Needs.{needs}
+use lib.Seq.{length-take-le}
 use Rattle.trial.proofs.streams.append_in.Statement.{statement}
 use Rattle.trial.proofs.streams.append_in.Tie as tie
 

@@ -1,10 +1,11 @@
-use native.Mathlib.Omega.{arith}
-use mathlib.Core.Path.{_≡_, refl, sym, _∙_}
+-- `volume::access::copy` meets its contract.
 use Prim.Native.Nat.{_-_, _≤_}
+use mathlib.Core.Path.{_≡_, refl, sym, _∙_}
+use native.Mathlib.Omega.{arith}
+use borrow.Author.Needs.{needs}
 use lib.ListN.{length, getD, length-set}
 use Rattle.volume.specs.Service.{edit}
 use Rattle.volume.proofs.Edit.{editedTo, edit-start, edit-next, edit-done, edit-replace}
-use borrow.Author.Needs.{needs}
 use Rattle.volume.proofs.access.copy.Statement.{statement}
 use Rattle.volume.proofs.access.copy.Tie as tie
 

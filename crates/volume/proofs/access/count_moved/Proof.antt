@@ -1,6 +1,7 @@
+-- `volume::access::count_moved` meets its contract.
 use native.Mathlib.Omega.{arith}
-use Rattle.volume.specs.Access.{countMoved}
 use borrow.Author.Needs.{needs}
+use Rattle.volume.specs.Access.{countMoved}
 use Rattle.volume.proofs.access.count_moved.Statement.{statement}
 use Rattle.volume.proofs.access.count_moved.Tie as tie
 

@@ -1,11 +1,12 @@
-use native.Mathlib.Omega.{arith}
-use mathlib.Core.Path.{sym, _∙_}
-use denote.Ref.{now}
+-- `volume::access::load` meets its contract.
 use Prim.Native.Nat.{_+_, _≤_}
+use mathlib.Core.Path.{sym, _∙_}
+use native.Mathlib.Omega.{arith}
+use borrow.Author.Needs.{needs}
+use denote.Ref.{now}
 use lib.ListN.{length}
 use lib.Seq.{length-take-le}
 use Rattle.volume.proofs.Moves.{part-length, read-back}
-use borrow.Author.Needs.{needs}
 use Rattle.volume.proofs.access.load.Statement.{statement}
 use Rattle.volume.proofs.access.load.Tie as tie
 

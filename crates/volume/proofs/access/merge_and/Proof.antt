@@ -1,11 +1,12 @@
-use native.Mathlib.Omega.{arith}
-use mathlib.Core.Path.{_≡_, refl, sym, _∙_}
+-- `volume::access::merge_and` meets its contract.
 use Prim.Native.Nat.{_-_, _≤_}
+use mathlib.Core.Path.{_≡_, refl, sym, _∙_}
+use native.Mathlib.Omega.{arith}
+use borrow.Author.Needs.{needs}
 use lib.ListN.{length, getD, length-set}
+use lib.Bits.{bitAnd}
 use Rattle.volume.specs.Service.{edit}
 use Rattle.volume.proofs.Edit.{editedTo, edit-start, edit-next, edit-done}
-use lib.Bits.{bitAnd}
-use borrow.Author.Needs.{needs}
 use Rattle.volume.proofs.access.merge_and.Statement.{statement}
 use Rattle.volume.proofs.access.merge_and.Tie as tie
 

@@ -1,3 +1,4 @@
+-- `volume::access::moved` meets its contract.
 use borrow.Author.Tests.{eq-eqb, ne-eqb}
 use Rattle.volume.specs.Service.{movedAnswer, moveAnswer}
 use Rattle.volume.proofs.access.moved.Statement.{statement}

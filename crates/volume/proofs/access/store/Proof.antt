@@ -1,13 +1,14 @@
-use borrow.Author.Tests.{eq-eqb, ne-eqb}
-use lib.Bits.{bitAnd, bitOr}
-use native.Mathlib.Omega.{arith}
-use mathlib.Core.Path.{sym, _∙_}
-use denote.Ref.{now}
+-- `volume::access::store` meets its contract.
 use Prim.Native.Nat.{_+_, _≤_}
+use mathlib.Core.Path.{sym, _∙_}
+use native.Mathlib.Omega.{arith}
+use borrow.Author.Tests.{eq-eqb, ne-eqb}
+use borrow.Author.Needs.{needs}
+use denote.Ref.{now}
+use lib.Bits.{bitAnd, bitOr}
 use lib.ListN.{length}
 use lib.Seq.{length-take-le}
 use Rattle.volume.proofs.Moves.{part-length, write-none, copy-back, write-back, written-and, written-or}
-use borrow.Author.Needs.{needs}
 use Rattle.volume.proofs.access.store.Statement.{statement}
 use Rattle.volume.proofs.access.store.Tie as tie
 

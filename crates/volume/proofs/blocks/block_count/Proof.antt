@@ -1,11 +1,12 @@
-use mathlib.Core.Path.{refl, _≡_}
-use Rattle.volume.proofs.Places.{count-end, entry-blocks}
-use native.Mathlib.Omega.{arith}
-use denote.Ref.{now}
+-- `volume::blocks::block_count` meets its contract.
 use Prim.Native.Nat.{_+_, _-_, _*_, _/_, _≤_}
+use mathlib.Core.Path.{refl, _≡_}
+use native.Mathlib.Omega.{arith}
+use borrow.Author.Needs.{needs}
+use denote.Ref.{now}
 use lib.ListN.{length, drop}
 use Rattle.volume.specs.BlockMap.{blocks}
-use borrow.Author.Needs.{needs}
+use Rattle.volume.proofs.BlockRuns.{entry-blocks, count-end}
 use Rattle.volume.proofs.blocks.block_count.Statement.{statement}
 use Rattle.volume.proofs.blocks.block_count.Tie as tie
 

@@ -1,13 +1,14 @@
+-- `volume::blocks::find_block` meets its contract.
+use Prim.Native.Nat.{_+_, _-_, _*_, _/_, _≤_}
 use mathlib.Core.Path.{refl, _≡_, _∙_}
 use native.Mathlib.Nat.{mul-le-mul-right}
 use native.Mathlib.Omega.{arith}
+use borrow.Author.Needs.{needs}
 use denote.Ref.{now}
-use Prim.Native.Nat.{_+_, _-_, _*_, _/_, _≤_}
 use lib.ListN.{length, drop}
 use Rattle.volume.specs.BlockMap.{bytes}
 use Rattle.volume.specs.Blocks.{place, placeFrom}
-use Rattle.volume.proofs.Places.{find-end, find-hit, find-next, entry-bytes}
-use borrow.Author.Needs.{needs}
+use Rattle.volume.proofs.BlockRuns.{find-hit, find-next, entry-bytes, find-end}
 use Rattle.volume.proofs.blocks.find_block.Statement.{statement}
 use Rattle.volume.proofs.blocks.find_block.Tie as tie
 

@@ -1,10 +1,11 @@
-use Rattle.volume.specs.State.{mapOf}
-use Rattle.volume.proofs.Lawful.{Lawful, lawful, lent-bytes}
-use native.Mathlib.Omega.{arith}
+-- `volume::blocks::locate` meets its contract.
 use mathlib.Core.Path.{_≡_, sym}
+use native.Mathlib.Omega.{arith}
+use borrow.Author.Needs.{needs}
 use lib.ListN.{length}
 use lib.Seq.{length-take-le}
-use borrow.Author.Needs.{needs}
+use Rattle.volume.specs.State.{mapOf}
+use Rattle.volume.proofs.Lawful.{Lawful, lawful, lent-bytes}
 use Rattle.volume.proofs.blocks.locate.Statement.{statement}
 use Rattle.volume.proofs.blocks.locate.Tie as tie
 

@@ -1,13 +1,14 @@
-use native.Mathlib.Omega.{arith}
-use mathlib.Core.Path.{_≡_, refl, _∙_}
-use denote.Ref.{now}
+-- `volume::blocks::run_end` meets its contract.
 use Prim.Native.Nat.{_+_, _-_, _*_, _≤_, _<_}
-use lib.ListN.{length, getD, drop}
+use mathlib.Core.Path.{_≡_, refl, _∙_}
 use mathlib.Core.List.{_∷_}
+use native.Mathlib.Omega.{arith}
+use borrow.Author.Needs.{needs}
+use denote.Ref.{now}
+use lib.ListN.{length, getD, drop}
 use Rattle.volume.specs.BlockMap.{blocks}
 use Rattle.volume.specs.Blocks.{firstByte}
-use Rattle.volume.proofs.Places.{walk-stop, walk-on, walk-next, walk-more, entry-blocks}
-use borrow.Author.Needs.{needs}
+use Rattle.volume.proofs.BlockRuns.{entry-blocks, walk-stop, walk-on, walk-next, walk-more}
 use Rattle.volume.proofs.blocks.run_end.Statement.{statement}
 use Rattle.volume.proofs.blocks.run_end.Tie as tie
 

@@ -1,3 +1,4 @@
+-- `volume::erase::erase_good` meets its contract.
 use mathlib.Core.Path.{refl}
 use borrow.Author.Needs.{needs}
 use Rattle.volume.proofs.erase.erase_good.Statement.{statement}

@@ -1,14 +1,15 @@
+-- `volume::erase::erase_list` meets its contract.
 use Prim.Native.Nat.{ℕ, _-_, _≤_}
-use native.Mathlib.Omega.{arith}
 use mathlib.Core.Path.{_≡_, refl, _∙_}
+use mathlib.Core.Bool.{true}
+use native.Mathlib.Omega.{arith}
+use borrow.Author.Needs.{needs}
 use denote.Ref.{now}
 use lib.ListN.{length, drop}
-use mathlib.Core.Bool.{true}
 use Rattle.volume.specs.BlockMap.{blocks}
 use Rattle.volume.specs.Erase.{goodList}
 use Rattle.volume.specs.Service.{edit}
 use Rattle.volume.proofs.EraseLists.{listErased, good-even, pair-good, erase-next, erase-end, past-list}
-use borrow.Author.Needs.{needs}
 use Rattle.volume.proofs.erase.erase_list.Statement.{statement}
 use Rattle.volume.proofs.erase.erase_list.Tie as tie
 

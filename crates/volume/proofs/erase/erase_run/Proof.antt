@@ -1,13 +1,15 @@
-use native.Mathlib.Omega.{arith}
-use mathlib.Core.Path.{_≡_, sym, _∙_}
-use denote.Ref.{now}
+-- `volume::erase::erase_run` meets its contract.
 use Prim.Native.Nat.{_+_, _≤_}
+use mathlib.Core.Path.{_≡_, sym, _∙_}
+use native.Mathlib.Omega.{arith}
+use borrow.Author.Needs.{needs}
+use denote.Ref.{now}
 use lib.ListN.{length}
 use Rattle.volume.specs.Blocks.{place, firstByte}
 use Rattle.volume.specs.declared.blocks.Place.the-variants.{At}
 use Rattle.volume.proofs.EraseLists.{run-back}
-use Rattle.volume.proofs.Places.{place-lost, found-start, found-walk, walk-asks, firstByte-rises, firstByte-le}
-use borrow.Author.Needs.{needs}
+use Rattle.volume.proofs.Places.{place-lost, found-start, firstByte-le}
+use Rattle.volume.proofs.BlockRuns.{found-walk, walk-asks, firstByte-rises}
 use Rattle.volume.proofs.erase.erase_run.Statement.{statement}
 use Rattle.volume.proofs.erase.erase_run.Tie as tie
 

@@ -1,3 +1,4 @@
+-- `volume::erase::erased_byte` meets its contract.
 use borrow.Author.Tests.{eq-eqb, ne-eqb}
 use Rattle.volume.specs.Erase.{erasedByte}
 use Rattle.volume.proofs.erase.erased_byte.Statement.{statement}

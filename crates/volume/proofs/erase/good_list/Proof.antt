@@ -1,11 +1,12 @@
-use native.Mathlib.Omega.{arith}
-use mathlib.Core.Path.{_≡_, refl, _∙_}
-use denote.Ref.{now}
+-- `volume::erase::good_list` meets its contract.
 use Prim.Native.Nat.{_-_, _≤_}
+use mathlib.Core.Path.{_≡_, refl, _∙_}
+use native.Mathlib.Omega.{arith}
+use borrow.Author.Needs.{needs}
+use denote.Ref.{now}
 use lib.ListN.{length, drop}
 use Rattle.volume.specs.Erase.{goodList}
 use Rattle.volume.proofs.EraseLists.{ends-good, past-list, odd-list, zero-pair, far-pair, good-pair}
-use borrow.Author.Needs.{needs}
 use Rattle.volume.proofs.erase.good_list.Statement.{statement}
 use Rattle.volume.proofs.erase.good_list.Tie as tie
 

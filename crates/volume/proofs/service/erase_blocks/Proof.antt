@@ -1,13 +1,14 @@
+-- `volume::service::erase_blocks` meets its contract.
 use mathlib.Core.Bool.{not, false}
 use mathlib.Core.Path.{_≡_, sym, ap, _∙_}
-use Rattle.volume.specs.State.{unlawful, mapOf}
 use native.Mathlib.Omega.{arith}
+use borrow.Author.Needs.{needs}
 use lib.ListN.{length}
 use lib.Seq.{length-take-le}
+use Rattle.volume.specs.State.{unlawful, mapOf}
 use Rattle.volume.specs.Service.{eraseBlocks, erasedAnswer, bufferOf, refusals}
 use Rattle.volume.proofs.Lawful.{lawful, lent-bytes, lent-blocks, lent-within}
 use Rattle.volume.proofs.Steps.{unlawful-step, refused-step, erase-step, lent-5, lent-15, lent-2, lent-none}
-use borrow.Author.Needs.{needs}
 use Rattle.volume.proofs.service.erase_blocks.Statement.{statement}
 use Rattle.volume.proofs.service.erase_blocks.Tie as tie
 

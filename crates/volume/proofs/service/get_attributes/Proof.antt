@@ -1,9 +1,10 @@
+-- `volume::service::get_attributes` meets its contract.
 use mathlib.Core.Path.{_≡_, sym, _∙_}
 use mathlib.Core.Bool.{false}
+use borrow.Author.Needs.{needs}
 use Rattle.volume.specs.State.{unlawful}
 use Rattle.volume.specs.Service.{getAttributes, settingsAnswer, bufferOf, refusals, perform, effect}
 use Rattle.volume.proofs.Steps.{unlawful-step, allowed-step, row-passes, no-row}
-use borrow.Author.Needs.{needs}
 use Rattle.volume.proofs.service.get_attributes.Statement.{statement}
 use Rattle.volume.proofs.service.get_attributes.Tie as tie
 

@@ -1,11 +1,12 @@
+-- `volume::service::get_block_size` meets its contract.
 use mathlib.Core.Path.{_≡_, sym, _∙_}
 use mathlib.Core.Bool.{false}
-use Rattle.volume.specs.State.{unlawful}
 use borrow.Author.Tests.{le-leb, lt-leb}
+use borrow.Author.Needs.{needs}
+use Rattle.volume.specs.State.{unlawful}
 use Rattle.volume.specs.Service.{getBlockSize, blockSizeAnswer, bufferOf, refusals}
 use Rattle.volume.proofs.Places.{place-lost, place-found}
 use Rattle.volume.proofs.Steps.{unlawful-step, refused-step, size-step, row-applies, row-passes, no-row}
-use borrow.Author.Needs.{needs}
 use Rattle.volume.proofs.service.get_block_size.Statement.{statement}
 use Rattle.volume.proofs.service.get_block_size.Tie as tie
 

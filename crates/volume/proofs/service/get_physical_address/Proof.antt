@@ -1,10 +1,11 @@
+-- `volume::service::get_physical_address` meets its contract.
 use mathlib.Core.Path.{_≡_, sym, ap, _∙_}
 use mathlib.Core.Bool.{false, not}
-use Rattle.volume.specs.State.{unlawful}
 use borrow.Author.Tests.{eq-eqb, ne-eqb}
+use borrow.Author.Needs.{needs}
+use Rattle.volume.specs.State.{unlawful}
 use Rattle.volume.specs.Service.{getPhysicalAddress, addressAnswer, bufferOf, refusals, perform, effect}
 use Rattle.volume.proofs.Steps.{unlawful-step, refused-step, allowed-step, row-applies, row-passes, no-row}
-use borrow.Author.Needs.{needs}
 use Rattle.volume.proofs.service.get_physical_address.Statement.{statement}
 use Rattle.volume.proofs.service.get_physical_address.Tie as tie
 

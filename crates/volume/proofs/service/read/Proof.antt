@@ -1,11 +1,13 @@
+-- `volume::service::read` meets its contract.
+use Prim.Native.Nat.{_+_, _≤_}
 use mathlib.Core.Path.{_≡_, sym, _∙_}
 use mathlib.Core.Bool.{false}
-use Rattle.volume.specs.State.{unlawful, mapOf}
 use native.Mathlib.Omega.{arith}
-use denote.Ref.{now}
-use Prim.Native.Nat.{_+_, _≤_}
-use lib.ListN.{length}
 use borrow.Author.Tests.{le-leb, lt-leb}
+use borrow.Author.Needs.{needs}
+use denote.Ref.{now}
+use lib.ListN.{length}
+use Rattle.volume.specs.State.{unlawful, mapOf}
 use Rattle.volume.specs.Service.{read, movedAnswer, bufferOf, refusals}
 use Rattle.volume.specs.Blocks.{place}
 use Rattle.volume.specs.declared.blocks.Place.the-variants.{At}
@@ -13,7 +15,6 @@ use Rattle.volume.proofs.Lawful.{lawful}
 use Rattle.volume.proofs.Moves.{moves}
 use Rattle.volume.proofs.Places.{place-lost, place-found, found-within}
 use Rattle.volume.proofs.Steps.{unlawful-step, refused-step, read-step, lent-5, lent-15, lent-2, lent-none}
-use borrow.Author.Needs.{needs}
 use Rattle.volume.proofs.service.read.Statement.{statement}
 use Rattle.volume.proofs.service.read.Tie as tie
 

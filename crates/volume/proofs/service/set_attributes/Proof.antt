@@ -1,10 +1,11 @@
-use Rattle.volume.specs.State.{stateWith, unlawful}
+-- `volume::service::set_attributes` meets its contract.
 use mathlib.Core.Path.{_≡_, sym, _∙_}
 use mathlib.Core.Bool.{false}
+use borrow.Author.Needs.{needs}
+use Rattle.volume.specs.State.{stateWith, unlawful}
 use Rattle.volume.specs.Service.{setAttributes, settingsAnswer, bufferOf, refusals, perform, effect, withAttributes}
 use Rattle.volume.specs.Settings.{settingRefusals}
 use Rattle.volume.proofs.Steps.{unlawful-step, refused-step, allowed-step, row-applies, row-passes, no-row}
-use borrow.Author.Needs.{needs}
 use Rattle.volume.proofs.service.set_attributes.Statement.{statement}
 use Rattle.volume.proofs.service.set_attributes.Tie as tie
 

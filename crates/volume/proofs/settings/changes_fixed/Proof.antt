@@ -1,5 +1,6 @@
-use borrow.Author.Tests.{eq-eqb, ne-eqb}
+-- `volume::settings::changes_fixed` meets its contract.
 use mathlib.Core.Bool.{or-false}
+use borrow.Author.Tests.{eq-eqb, ne-eqb}
 use Rattle.common.specs.Refusals.{any}
 use Rattle.volume.specs.Settings.{changesFixed}
 use Rattle.volume.proofs.settings.changes_fixed.Statement.{statement}

@@ -1,3 +1,4 @@
+-- `volume::settings::changes_locked` meets its contract.
 use borrow.Author.Tests.{eq-eqb, ne-eqb}
 use Rattle.volume.proofs.settings.changes_locked.Statement.{statement}
 use Rattle.volume.proofs.settings.changes_locked.Tie as tie

@@ -1,6 +1,7 @@
+-- `volume::settings::lacks_capability` meets its contract.
 use mathlib.Core.Path.{_≡_}
-use Rattle.volume.proofs.SettingRules.{readLacking, writeLacking, lockLacking, read-lacks, write-lacks, lock-lacks}
 use borrow.Author.Needs.{needs}
+use Rattle.volume.proofs.SettingRules.{readLacking, writeLacking, lockLacking, read-lacks, write-lacks, lock-lacks}
 use Rattle.volume.proofs.settings.lacks_capability.Statement.{statement}
 use Rattle.volume.proofs.settings.lacks_capability.Tie as tie
 
