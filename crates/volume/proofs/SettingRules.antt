@@ -1,10 +1,15 @@
--- The capabilities that a change of settings needs, status by status, as the code asks for them.
-use Prim.Native.Nat.{ℕ}
-use mathlib.Core.Path.{_≡_, sym}
+-- The capabilities that a change of settings needs, status by status, as the code asks for them; and which bits the fixed ones are.
+use Prim.Native.Nat.{ℕ, zero, suc, _*_, _/_, _%_, _^_}
+use mathlib.Core.Path.{_≡_, refl, sym}
 use mathlib.Core.Bool.{Bool, true, false, not, _&&_, _||_, or-assoc, and-false}
+use native.Mathlib.Nat.{div-one, div-div-eq-div-mul}
+use native.Mathlib.Omega.{arith}
+use borrow.Author.Tests.{eqb-true, not-false}
+use lib.Dec.{eqb}
 use Rattle.common.specs.Refusals.{any}
+use Rattle.common.proofs.Refusals.{any-passed}
 use Rattle.volume.specs.Attributes.{flag, readDisabledCap, readEnabledCap, readStatus, writeDisabledCap, writeEnabledCap, writeStatus, lockCap, lockStatus}
-use Rattle.volume.specs.Settings.{lacksCapability, raises, clears}
+use Rattle.volume.specs.Settings.{changesFixed, lacksCapability, raises, clears}
 
 -- a status changes without the capability to raise it or to clear it
 abbrev pub lacking : Bool → Bool → Bool → Bool → Bool
@@ -44,3 +49,40 @@ module _ (old new : ℕ) where
 
     pub lock-lacks : (w : Bool) → w ≡ writeLacking → w ≡ false → (l : Bool) → l ≡ lockLacking → l ≡ lacksCapability old new
     lock-lacks w e t l el = rw (lacks-split, ← er, rn, ← e, t, ← el)
+
+-- two numbers that agree modulo 4 agree at their two lowest bits
+low-bits : (x y : ℕ) → x % 4 ≡ y % 4 → (x % 2 ≡ y % 2) × (x / 2 % 2 ≡ y / 2 % 2)
+low-bits x y e = (low x y e, second x y e)
+  where
+    low : (x y : ℕ) → x % 4 ≡ y % 4 → x % 2 ≡ y % 2
+    low x y e = omega arith
+
+    second : (x y : ℕ) → x % 4 ≡ y % 4 → x / 2 % 2 ≡ y / 2 % 2
+    second x y e = omega arith
+
+-- where no fixed bit is changed, the settings agree at every bit but 4 (2 ^ 2), 0x20 (2 ^ 5) and 0x80 (2 ^ 7)
+pub fixed-bits : (old new : ℕ) → changesFixed old new ≡ false → (k : ℕ) → (k ≡ 2 → ⊥) → (k ≡ 5 → ⊥) → (k ≡ 7 → ⊥)
+    → old / 2 ^ k % 2 ≡ new / 2 ^ k % 2
+unfolding changesFixed
+fixed-bits old new e k two five seven =
+    let a = any-passed (not (eqb (old % 0x4) (new % 0x4))) _ e in
+    let b = any-passed (not (eqb (old / 0x8 % 4) (new / 0x8 % 4))) _ (a .1) in
+    let c = any-passed (not (eqb (old / 0x40 % 2) (new / 0x40 % 2))) _ (b .1) in
+    let d = any-passed (not (eqb (old / 0x100) (new / 0x100))) _ (c .1) in
+    bits k two five seven
+    (eqb-true (old % 0x4) (new % 0x4) (not-false _ (a .0))) (eqb-true (old / 0x8 % 4) (new / 0x8 % 4) (not-false _ (b .0)))
+    (eqb-true (old / 0x40 % 2) (new / 0x40 % 2) (not-false _ (c .0))) (eqb-true (old / 0x100) (new / 0x100) (not-false _ (d .0)))
+  where
+    bits : (k : ℕ) → (k ≡ 2 → ⊥) → (k ≡ 5 → ⊥) → (k ≡ 7 → ⊥) → old % 0x4 ≡ new % 0x4 → old / 0x8 % 4 ≡ new / 0x8 % 4
+        → old / 0x40 % 2 ≡ new / 0x40 % 2 → old / 0x100 ≡ new / 0x100 → old / 2 ^ k % 2 ≡ new / 2 ^ k % 2
+    bits zero p q r a b c d = rw (div-one, div-one) (low-bits old new a .0)
+    bits (suc zero) p q r a b c d = low-bits old new a .1
+    bits (suc (suc zero)) p q r a b c d = absurd (p refl)
+    bits (suc (suc (suc zero))) p q r a b c d = low-bits (old / 8) (new / 8) b .0
+    bits (suc (suc (suc (suc zero)))) p q r a b c d = rw (div-div-eq-div-mul old 8 2, div-div-eq-div-mul new 8 2) at (low-bits (old / 8) (new / 8) b .1)
+    bits (suc (suc (suc (suc (suc zero))))) p q r a b c d = absurd (q refl)
+    bits (suc (suc (suc (suc (suc (suc zero)))))) p q r a b c d = c
+    bits (suc (suc (suc (suc (suc (suc (suc zero))))))) p q r a b c d = absurd (r refl)
+    bits (suc (suc (suc (suc (suc (suc (suc (suc k)))))))) p q r a b c d =
+        let e : 2 ^ suc (suc (suc (suc (suc (suc (suc (suc k))))))) ≡ 256 * 2 ^ k = omega arith in
+        rw (e, ← div-div-eq-div-mul old 256 (2 ^ k), ← div-div-eq-div-mul new 256 (2 ^ k), d)
