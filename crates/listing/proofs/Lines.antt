@@ -1,7 +1,7 @@
 -- Laws of the listing's lines: pieces of text stored one after the other, and the map's lines one entry at a time.
 use Prim.Native.Nat.{ℕ, suc, _+_, _*_, _≤_, _<_}
 use mathlib.Core.Path.{_≡_, refl, sym, ap, _∙_}
-use mathlib.Core.Bool.{Bool, true, false}
+use mathlib.Core.Bool.{Bool, true, false, cond}
 use mathlib.Core.List.{List, [], _++_}
 use native.Mathlib.Numerals.{add-one}
 use native.Mathlib.Omega.{arith}
@@ -12,7 +12,7 @@ use lib.Seq.{sets}
 use Rattle.common.proofs.Lists.{sets-append, sets-front, drop-two}
 use Rattle.numbers.specs.LittleEndian.{leBytes}
 use Rattle.listing.specs.Decimal.{places, digits, decimal}
-use Rattle.listing.specs.Listing.{field, mapLine, mapLines, listing, listedBy, listVolume}
+use Rattle.listing.specs.Listing.{field, mapLine, mapLines, listing, listedBy, listedNumber, listVolume}
 use Rattle.listing.specs.declared.Listed.the-variants as Listed
 use Rattle.listing.proofs.Decimal.{length-digits}
 
@@ -87,3 +87,12 @@ listed-within s room k e = go (ltb (length room) (length (listing s))) refl e
 -- and where the room is long enough it is never refused
 pub listed-fits : (s room : List ℕ) (n : ℕ) → length (listing s) ≤ length room → listVolume s room .answer ≡ Listed.Refused n → ⊥
 listed-fits s room n h e = refused-not-listed n (length (listing s)) (sym e ∙ sym (list-done s room h .0))
+
+-- the number of the answer: 5 where the room is too short, else 0
+pub listed-number : (s room : List ℕ) → listedNumber (listVolume s room .answer) ≡ cond (ltb (length room) (length (listing s))) 5 0
+unfolding listVolume listedBy listedNumber
+listed-number s room = go (ltb (length room) (length (listing s)))
+  where
+    go : (t : Bool) → listedNumber (listedBy t (listing s) room .answer) ≡ cond t 5 0
+    go true = refl
+    go false = refl

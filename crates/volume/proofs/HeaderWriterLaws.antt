@@ -2,18 +2,18 @@
 use Prim.Native.Nat.{ℕ, suc, _+_, _*_, _/_, _%_, _≤_, _<_}
 use mathlib.Core.Path.{_≡_, refl, sym, ap, _∙_}
 use mathlib.Core.List.{List, [], _∷_, _++_, append-assoc}
-use mathlib.Core.Option.{none, some}
+use mathlib.Core.Option.{Option, none, some}
 use native.Mathlib.Numerals.{add-one}
 use native.Mathlib.Omega.{arith}
 use lib.ListN.{length, getD, drop, replicate, drop-of-length-le, length-append, length-replicate}
 use lib.Seq.{sets, drop-cons}
-use Rattle.common.specs.Refusals.{firstRefusal}
+use Rattle.common.specs.Refusals.{firstRefusal, refusalNumber}
 use Rattle.common.proofs.Lists.{sets-append, sets-over, sets-front}
 use Rattle.numbers.specs.LittleEndian.{leBytes}
 use Rattle.numbers.proofs.LittleEndian.{length-leBytes}
 use Rattle.volume.specs.BlockMap.{headerLength}
 use Rattle.volume.specs.Header.{signature, wordSum}
-use Rattle.volume.specs.HeaderWriter.{wordsBytes, headerFront, headerWith, headerBytes, reservedAndRevision, checksum, writeRefusals, writtenBy, writeHeader}
+use Rattle.volume.specs.HeaderWriter.{wordsBytes, headerFront, headerWith, headerBytes, reservedAndRevision, checksum, writeRefusals, writtenBy, writtenNumber, writeHeader}
 use Rattle.volume.specs.declared.header_writer.Written.the-variants as Written
 
 -- the stores of map words from place i on: the word there and then the rest, or only what follows the map
@@ -116,3 +116,13 @@ unfolding writeHeader writtenBy headerBytes
 write-done guid len a words room g even e =
     let l = length-header (checksum (wordSum (headerWith 0 guid len a words))) guid len a words g even in
     rw (e, l) (refl, refl)
+
+-- the number of the answer is that of the first row that applies, 0 where none does
+pub written-number : (guid : List ℕ) (len a : ℕ) (words room : List ℕ)
+    → writtenNumber (writeHeader guid len a words room .answer) ≡ refusalNumber (firstRefusal (writeRefusals len a words (length room)))
+unfolding writeHeader writtenBy writtenNumber refusalNumber
+written-number guid len a words room = go (firstRefusal (writeRefusals len a words (length room)))
+  where
+    go : (o : Option ℕ) → writtenNumber (writtenBy o (headerBytes guid len a words) room .answer) ≡ refusalNumber o
+    go none = refl
+    go (some n) = refl

@@ -37,9 +37,6 @@ lawful st e =
 
 -- the same of a map as it is lent: the first words of an array of 64
 module _ (st : State) (k : Lawful st) where
-  pub lent-entries : 2 * st .entries ≤ 64
-  lent-entries = omega (arith, k .entries)
-
   pub lent-bytes : bytes (take (2 * st .entries) (st .map)) ≤ 16777216
   unfolding mapOf
   lent-bytes = omega (arith, k .length, k .total)
