@@ -27,14 +27,18 @@ def said(name):
     return {int(no) for no in end.group(1).split(", ")} if end else set()
 
 
-def made():
-    """(subject, case) of every case: each name stands once, and says which refusals the model gives."""
-    cases = [pair for part in (headers, service, streams) for pair in part.cases()]
-    twice = [key for key, n in Counter((subject, case.name) for subject, case in cases).items() if n > 1]
-    assert not twice, twice
+def checked(cases):
+    """The (subject, case) given: each name stands once in its subject, and says which refusals the model gives."""
+    seen = set()
     for subject, case in cases:
+        assert (subject, case.name) not in seen, (subject, case.name)
+        seen.add((subject, case.name))
         assert said(case.name) == set(case.numbers) - {0, 4}, (subject, case.name, case.numbers)
-    return cases
+        yield subject, case
+
+
+def made():
+    return list(checked(pair for part in (headers, service, streams) for pair in part.cases()))
 
 
 def files(cases):

@@ -12,6 +12,8 @@ Case = namedtuple("Case", "name script lines numbers")     # numbers: the answer
 
 WORKING = 4096      # bytes of a working volume
 ROOM = 512          # bytes of a header's room and of a section buffer
+BLOCK = 65536       # bytes that are looked at together; the pattern repeats after as many
+PRIME = 4294967291
 ERASED = (0xFF00, 0)
 PATTERN = (0x1234, 1801)
 
@@ -32,7 +34,8 @@ def words(numbers, width):
 
 def prepared(own, pattern, size):
     start, step = pattern
-    lent = bytearray((start + i * step) % 65536 // 256 for i in range(size))
+    block = bytes((start + i * step) % 65536 // 256 for i in range(min(size, BLOCK)))
+    lent = bytearray(block * (size // BLOCK + 1))[:size]
     lent[:len(own)] = own
     return lent
 
@@ -58,19 +61,31 @@ def state_fields(state):
     return [state.length, state.attributes, state.entries, state.base, state.guid.hex(), map_words]
 
 
+def blocks(data):
+    return [(at, data[at:at + BLOCK]) for at in range(0, len(data), BLOCK)]
+
+
 def checksum(data):
     total = 0
-    for byte in data:
-        total = (total * 31 + byte) % 4294967291
+    for _, block in blocks(data):
+        if block == block[:1] * len(block):     # one byte value: a geometric series
+            power = pow(31, len(block), PRIME)
+            total = (total * power + block[0] * (power - 1) * pow(30, -1, PRIME)) % PRIME
+        else:
+            for byte in block:
+                total = (total * 31 + byte) % PRIME
     return total
 
 
 def change_fields(before, after):
-    places = [i for i in range(len(after)) if before[i] != after[i]]
-    if not places:
+    count, first, last = 0, None, None
+    for (at, old), (_, new) in zip(blocks(before), blocks(after)):
+        if old != new:
+            places = [at + i for i in range(len(new)) if old[i] != new[i]]
+            count, first, last = count + len(places), places[0] if first is None else first, places[-1]
+    if not count:
         return [0, checksum(after)]
-    first, last = places[0], places[-1]
-    return [len(places), first, last, shown(after[first:last + 1]), checksum(after)]
+    return [count, first, last, shown(after[first:last + 1]), checksum(after)]
 
 
 def answer_fields(no, *values):
@@ -182,8 +197,8 @@ def searching(name, stream, kind, instance):
     return Case(name, script, [line(name, "search", *fields)], [fields[2]])
 
 
-def appending(name, room, used, kind, body, stream=b"", instance=0, pattern=PATTERN):
-    before = prepared(stream, pattern, ROOM)
+def appending(name, room, used, kind, body, stream=b"", instance=0, pattern=PATTERN, buffer=ROOM):
+    before = prepared(stream, pattern, buffer)
     after = bytearray(before)
     part = after[:room]
     no, count = sections.append(part, used, kind, body)

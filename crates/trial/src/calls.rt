@@ -1,9 +1,9 @@
 // The cases of the block service: a run of calls over one volume.
+use crate::headers::state_fields;
 use crate::print::begin;
 use crate::print::change_fields;
 use crate::print::end;
 use crate::print::field;
-use crate::print::state_fields;
 use crate::script::item;
 use crate::script::least;
 use crate::script::long_words_of;

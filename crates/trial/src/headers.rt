@@ -1,10 +1,11 @@
 // The cases of headers: opening, writing, listing.
 use crate::print::begin;
+use crate::print::bytes_field;
 use crate::print::change_fields;
 use crate::print::end;
 use crate::print::field;
 use crate::print::lines_field;
-use crate::print::state_fields;
+use crate::print::words_field;
 use crate::script::item;
 use crate::script::least;
 use crate::script::number;
@@ -19,6 +20,7 @@ use volume::header::Opening;
 use volume::header::open_volume;
 use volume::header_writer::Written;
 use volume::header_writer::write_header;
+use volume::state::State;
 
 // Opening: the lent length, the base, the header's bytes, the pattern behind them.
 pub(crate) fn open_case(case: &[u8]) {
@@ -37,6 +39,18 @@ fn opened_fields(opened: Opened) {
     }
     let st = opened.state;
     state_fields(st);
+}
+
+// A state: length, attributes, entries, base, GUID, map words.
+pub(crate) fn state_fields(st: State) {
+    field(st.length);
+    field(st.attributes as u64);
+    field(st.entries as u64);
+    field(st.base);
+    let guid = st.guid;
+    bytes_field(&guid);
+    let map = st.map;
+    words_field(&map);
 }
 
 // Writing a header: the room's length, the GUID, the volume's length, the attributes, the map's

@@ -13,13 +13,26 @@ use crate::headers::open_case;
 use crate::headers::write_case;
 use crate::script::item;
 use crate::script::number;
+use crate::script::prefix;
 use crate::streams::append_case;
 use crate::streams::search_case;
 
+// The most bytes of a script. tests/limits builds a program with more, and a longer ROOM in streams.rt.
+const SCRIPT: usize = 262144;
+
 fn main() {
-    let mut input = [0u8; 262144];
-    let n = io::read_full(libc::STDIN_FILENO, &mut input);
-    run_script(&input[..n]);
+    let mut input = [0u8; SCRIPT];
+    run_input(&mut input);
+}
+
+// A function that is lent an array has it by its length alone; no proof looks into it, however long.
+fn run_input(input: &mut [u8; SCRIPT]) {
+    run_read(input);
+}
+
+fn run_read(input: &mut [u8]) {
+    let n = io::read_full(libc::STDIN_FILENO, input);
+    run_script(prefix(input, n));
 }
 
 // A script is a list: the number of cases, then the cases.

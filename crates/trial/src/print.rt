@@ -6,7 +6,6 @@ use crate::script::prefix;
 use numbers::byte_at;
 use std::num::wrapping_add_usize;
 use std::num::wrapping_sub_usize;
-use volume::state::State;
 
 pub(crate) fn text(s: &[u8]) {
     io::write_all(libc::STDOUT_FILENO, s);
@@ -71,18 +70,6 @@ pub(crate) fn lines_field(s: &[u8]) {
         }
         i += 1;
     }
-}
-
-// A state: length, attributes, entries, base, GUID, map words.
-pub(crate) fn state_fields(st: State) {
-    field(st.length);
-    field(st.attributes as u64);
-    field(st.entries as u64);
-    field(st.base);
-    let guid = st.guid;
-    bytes_field(&guid);
-    let map = st.map;
-    words_field(&map);
 }
 
 // What became of lent bytes: how many changed, the first and the last that did, the first bytes from

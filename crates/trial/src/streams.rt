@@ -17,6 +17,9 @@ use sections::search::Found;
 use sections::search::search;
 use std::num::wrapping_sub_usize;
 
+// The most bytes of a section buffer.
+const ROOM: usize = 512;
+
 // Searching: the stream, the type, the instance.
 pub(crate) fn search_case(case: &[u8]) {
     begin(case, b"search");
@@ -43,15 +46,23 @@ fn search_fields(stream: &[u8], kind: u8, instance: u64) {
 // Appending: the buffer's length, the used count, the type, the body, the stream and the pattern that
 // the buffer holds before, and the instance that is then searched for.
 pub(crate) fn append_case(case: &[u8]) {
-    let mut before = [0u8; 512];
-    prepare(item(case, 6), item(case, 7), &mut before);
-    let mut buffer = [0u8; 512];
-    prepare(item(case, 6), item(case, 7), &mut buffer);
+    let mut before = [0u8; ROOM];
+    let mut buffer = [0u8; ROOM];
+    append_arrays(case, &mut before, &mut buffer);
+}
+
+fn append_arrays(case: &[u8], before: &mut [u8; ROOM], buffer: &mut [u8; ROOM]) {
+    append_slices(case, before, buffer);
+}
+
+fn append_slices(case: &[u8], before: &mut [u8], buffer: &mut [u8]) {
+    prepare(item(case, 6), item(case, 7), before);
+    prepare(item(case, 6), item(case, 7), buffer);
     begin(case, b"append");
-    let used = append_in(case, &mut buffer);
-    change_fields(&before, &buffer);
+    let used = append_in(case, buffer);
+    change_fields(before, buffer);
     search_fields(
-        prefix(&buffer, used),
+        prefix(buffer, used),
         byte_at(item(case, 4), 0),
         number(case, 8),
     );

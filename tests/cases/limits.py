@@ -1,0 +1,71 @@
+"""Section streams at their limits: 16,777,216 bytes of a stream, 16,777,215 of a section, and 206.
+
+The lines are those of streams.py. Bodies of one byte value with a mark at each end.
+"""
+
+from cases.streams import BODY, COMPRESSION, FREE_FORM, RAW, VERSION, compression, section
+from trial import ERASED, appending, searching
+
+LIMIT = 16777216        # bytes of a stream
+LARGEST = LIMIT - 1     # bytes of a section
+ROOM = LIMIT + 8        # bytes of the section buffer
+
+
+def body(size):
+    return b"\x01" + b"\x5a" * (size - 2) + b"\x02"
+
+
+def search_cases():
+    largest = section(RAW, body(LARGEST - 4))
+    yield searching("a section of 16,777,215 bytes, padding cut off", largest, RAW, 0)
+    yield searching("a section of 16,777,215 bytes, one short: 203", largest[:-1], RAW, 0)
+    yield searching("a stream of 16,777,216 bytes", largest + bytes(1), RAW, 0)
+    yield searching("a stream of 16,777,217 bytes, one left: 206", largest + bytes(2), RAW, 0)
+    yield searching("a stream of 16,777,220 bytes, no other fault: 206", largest + bytes(1) + section(RAW), RAW, 0)
+    yield searching("16,777,216 bytes, padding that is not zero: 207", largest + b"\x01", RAW, 0)
+    yield searching("206 before 207: 206", largest + b"\x01\x00", RAW, 0)
+    yield searching("16,777,216 bytes of zero: 202", bytes(LIMIT), RAW, 0)
+    yield searching("206 before 202: 206", bytes(LIMIT + 1), RAW, 0)
+    yield searching("16,777,216 bytes, a type that is not there: 14", largest + bytes(1), VERSION, 0)
+    yield searching("206 before 14: 206", largest + bytes(1) + section(RAW), VERSION, 0)
+    held = compression(section(RAW, body(LARGEST - 13))) + bytes(1)
+    yield searching("a holder of 16,777,215 bytes", held, COMPRESSION, 0)
+    yield searching("inside a holder of 16,777,215 bytes", held, RAW, 0)
+    many = section(RAW, bytes(12)) * (LIMIT // 16)
+    yield searching("the last of 1,048,576 sections", many, RAW, 1048575)
+    yield searching("one of 1,048,576 sections too few: 14", many, RAW, 1048576)
+
+
+def long_appending(name, room, used, kind, added, stream=b"", instance=0):
+    return appending(name, room, used, kind, added, stream, instance, ERASED, ROOM)
+
+
+def append_cases():
+    largest = body(LARGEST - 4)
+    over = body(LARGEST - 3)
+    yield long_appending("body of 16,777,211", ROOM, 0, RAW, largest)
+    yield long_appending("body of 16,777,212: 206", ROOM, 0, RAW, over)
+    yield long_appending("body of 16,777,211, room just enough", LARGEST, 0, RAW, largest)
+    yield long_appending("body of 16,777,211, room one byte short: 5", LARGEST - 1, 0, RAW, largest)
+    yield long_appending("206 before 5, by size: 206", 16, 0, RAW, over)
+    yield long_appending("body of 16,777,211 in 16 bytes: 5", 16, 0, RAW, largest)
+    yield long_appending("2 before 206, a holder: 2", ROOM, 0, COMPRESSION, over)
+    yield long_appending("2 before 206, used above the buffer: 2", 16, 17, RAW, over)
+    for used, size, no in ((LIMIT - 8, 4, 0), (LIMIT - 8, 5, 206), (LIMIT - 7, 0, 0), (LIMIT - 7, 1, 206), (LIMIT - 4, 0, 0), (LIMIT - 3, 0, 206)):
+        name = "after %d bytes, body of %d%s" % (used, size, ": 206" if no else "")
+        yield long_appending(name, ROOM, used, RAW, (BODY * 2)[:size], section(RAW, body(used - 4)), 1)
+    full = section(RAW, body(LARGEST - 4)) + bytes(1)
+    yield long_appending("after a full stream: 206", ROOM, LIMIT, RAW, b"", full)
+    yield long_appending("every byte of the buffer used: 206", ROOM, ROOM, RAW, b"", full)
+    yield long_appending("used one above the buffer: 2", ROOM, ROOM + 1, RAW, b"", full)
+    yield long_appending("202 before 206: 202", ROOM, LIMIT, FREE_FORM, bytes(15), full)
+    yield long_appending("free-form body of 16 after a full stream: 206", ROOM, LIMIT, FREE_FORM, bytes(16), full)
+    yield long_appending("206 before 5, by the stream: 206", LIMIT - 3, LIMIT - 3, RAW, b"", section(RAW, body(LIMIT - 7)))
+    yield long_appending("room for the used bytes alone: 5", LIMIT - 4, LIMIT - 4, RAW, b"", section(RAW, body(LIMIT - 8)))
+
+
+def cases():
+    for case in search_cases():
+        yield "search", case
+    for case in append_cases():
+        yield "append", case
