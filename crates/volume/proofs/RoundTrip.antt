@@ -115,31 +115,27 @@ module _ (guid : List ℕ) (len a : ℕ) (words rest : List ℕ) (c : ℕ) (g : 
       ∙ le-after m (replicate 16 0) (guid ++ t32) (32 + k) (16 + k) (omega arith)
       ∙ le-after m guid t32 (16 + k) k (omega arith)
 
-  -- the same after the length, the signature, the attributes and the header length
+  -- and so past one field more: from the fields that start at byte p to those after the first of them, w bytes long
+  after-field : (p w : ℕ) (f t : List ℕ) → length f ≡ w → ((m k : ℕ) → le m v (p + k) ≡ le m (f ++ t) k) → (m k : ℕ) → le m v (p + w + k) ≡ le m t k
+  after-field p w f t e at-field m k =
+      let q : p + w + k ≡ p + (w + k) = omega arith in
+      ap (λ (x : ℕ). le m v x) q ∙ at-field m (w + k) ∙ le-after m f t (w + k) k (ap (λ (x : ℕ). x + k) e)
+
   after-length : (m k : ℕ) → le m v (40 + k) ≡ le m t40 k
   unfolding t32
-  after-length m k =
-      let e : 40 + k ≡ 32 + (8 + k) = omega arith in
-      ap (λ (x : ℕ). le m v x) e ∙ after-guid m (8 + k) ∙ le-after m (leBytes 8 len) t40 (8 + k) k (ap (λ (x : ℕ). x + k) (length-leBytes 8 len))
+  after-length = after-field 32 8 (leBytes 8 len) t40 (length-leBytes 8 len) after-guid
 
   after-signature : (m k : ℕ) → le m v (44 + k) ≡ le m t44 k
   unfolding t40
-  after-signature m k =
-      let e : 44 + k ≡ 40 + (4 + k) = omega arith in
-      ap (λ (x : ℕ). le m v x) e ∙ after-length m (4 + k) ∙ le-after m (leBytes 4 signature) t44 (4 + k) k (ap (λ (x : ℕ). x + k) (length-leBytes 4 signature))
+  after-signature = after-field 40 4 (leBytes 4 signature) t44 (length-leBytes 4 signature) after-length
 
   after-attributes : (m k : ℕ) → le m v (48 + k) ≡ le m t48 k
   unfolding t44
-  after-attributes m k =
-      let e : 48 + k ≡ 44 + (4 + k) = omega arith in
-      ap (λ (x : ℕ). le m v x) e ∙ after-signature m (4 + k) ∙ le-after m (leBytes 4 a) t48 (4 + k) k (ap (λ (x : ℕ). x + k) (length-leBytes 4 a))
+  after-attributes = after-field 44 4 (leBytes 4 a) t48 (length-leBytes 4 a) after-signature
 
   after-header-length : (m k : ℕ) → le m v (50 + k) ≡ le m t50 k
   unfolding t48
-  after-header-length m k =
-      let e : 50 + k ≡ 48 + (2 + k) = omega arith in
-      ap (λ (x : ℕ). le m v x) e ∙ after-attributes m (2 + k)
-      ∙ le-after m (leBytes 2 (headerLength n)) t50 (2 + k) k (ap (λ (x : ℕ). x + k) (length-leBytes 2 (headerLength n)))
+  after-header-length = after-field 48 2 (leBytes 2 (headerLength n)) t50 (length-leBytes 2 (headerLength n)) after-attributes
 
   length-read : le 8 v 32 ≡ len
   unfolding t32
