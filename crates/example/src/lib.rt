@@ -8,13 +8,11 @@ ghost use mathlib.Core.Path.{_≡_};
 ghost use Rattle.example.specs.Mask.{putMask};
 ghost use Rattle.volume.specs.Header.{openVolume};
 ghost use Rattle.volume.specs.Service.{movedAnswer, result};
+use volume::erase::END_OF_LIST;
 use volume::header::open_volume;
 use volume::service::Moved;
 use volume::service::erase_blocks;
 use volume::service::write;
-
-// Ends an erase list, in the place of a first block.
-const END_OF_LIST: u64 = 0xFFFFFFFFFFFFFFFF;
 
 // Opens the volume, erases the block of the mask and writes the new mask at its start. The answer is
 // the write's: the number of bytes that fit the block, or a refusal. A volume that does not open

@@ -3,7 +3,10 @@ ghost use mathlib.Core.Path.{_≡_};
 ghost use Prim.Native.Nat.{_<_};
 ghost use lib.ListN.{length};
 ghost use Rattle.sections.specs.Header.{headAt, Lies};
+use super::kinds::COMMON_HEADER;
+use super::kinds::COMPRESSION_HEADER;
 use super::kinds::Class;
+use super::kinds::GUID_DEFINED_HEADER;
 use super::kinds::SECTION_COMPRESSION;
 use super::kinds::kind_of;
 
@@ -17,13 +20,6 @@ const COMPRESSION_KIND: usize = 8;
 const DATA_OFFSET: usize = 20;
 
 const ATTRIBUTES: usize = 22;
-
-// The lengths of the headers: the one that all sections share, and the two holders' own.
-pub(crate) const COMMON_HEADER: usize = 4;
-
-const COMPRESSION_HEADER: usize = 9;
-
-const GUID_DEFINED_HEADER: usize = 24;
 
 // What stands at a start: a fault, a section that is not opened (a leaf, or a holder with packed
 // contents), or a holder whose contents, from `from` to `end`, are searched.

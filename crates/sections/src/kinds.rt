@@ -28,6 +28,15 @@ pub const SECTION_RAW: u8 = 0x19;
 
 pub const SECTION_PEI_DEPEX: u8 = 0x1B;
 
+// The lengths of the headers: the one that all sections share, and those of the three types with fields of their own.
+pub(crate) const COMMON_HEADER: usize = 4;
+
+pub(crate) const COMPRESSION_HEADER: usize = 9;
+
+pub(crate) const GUID_DEFINED_HEADER: usize = 24;
+
+const FREEFORM_HEADER: usize = 20;
+
 // A holder is what 002 calls an encapsulation section.
 pub enum Class {
     OpenableHolder,
@@ -48,15 +57,15 @@ pub fn kind_of(kind: u8) -> Kind
     match kind {
         SECTION_COMPRESSION => Kind {
             class: Class::OpenableHolder,
-            least: 9,
+            least: COMPRESSION_HEADER,
         },
         SECTION_GUID_DEFINED => Kind {
             class: Class::OpenableHolder,
-            least: 24,
+            least: GUID_DEFINED_HEADER,
         },
         SECTION_FREEFORM_SUBTYPE_GUID => Kind {
             class: Class::GuidHeadedLeaf,
-            least: 20,
+            least: FREEFORM_HEADER,
         },
         SECTION_PE32
         | SECTION_PIC
@@ -69,11 +78,11 @@ pub fn kind_of(kind: u8) -> Kind
         | SECTION_RAW
         | SECTION_PEI_DEPEX => Kind {
             class: Class::PlainLeaf,
-            least: 4,
+            least: COMMON_HEADER,
         },
         _ => Kind {
             class: Class::PlainLeaf,
-            least: 4,
+            least: COMMON_HEADER,
         },
     }
 }

@@ -4,9 +4,9 @@ ghost use Prim.Native.Nat.{_+_, _<_, _^_};
 ghost use lib.ListN.{length};
 ghost use Rattle.sections.specs.Walk.{aligned as alignedOf, walk, zeros};
 ghost use Rattle.sections.specs.Seek.{visited, halted, run};
-use super::header::COMMON_HEADER;
 use super::header::Head;
 use super::header::read_head;
+use super::kinds::COMMON_HEADER;
 
 // What the walk carries along: the first fault; or how many sections of the type wanted are still
 // to be passed; or the part of the one wanted.

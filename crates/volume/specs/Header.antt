@@ -18,13 +18,35 @@ use Rattle.volume.specs.declared.header.Opened.{Opened}
 
 -- ---- fields
 
--- bytes 40..43: signature 5F 46 56 48, "_FVH"
+-- bytes 16..31: file system GUID
+abbrev pub guidAt : List ℕ → List ℕ
+guidAt s = take 16 (drop 16 s)
+
+-- bytes 32..39: volume length
+abbrev pub lengthAt : List ℕ → ℕ
+lengthAt s = le 8 s 32
+
+-- bytes 40..43: signature, which is 5F 46 56 48, "_FVH"
+abbrev pub signatureAt : List ℕ → ℕ
+signatureAt s = le 4 s 40
+
 abbrev pub signature : ℕ
 signature = 0x4856465F
 
--- byte 55: revision, 1
+-- bytes 44..47: attributes
+abbrev pub attributesAt : List ℕ → ℕ
+attributesAt s = le 4 s 44
+
+-- byte 55: revision, which is 1
+abbrev pub revisionAt : List ℕ → ℕ
+revisionAt s = getD s 55 0
+
 abbrev pub revision : ℕ
 revision = 1
+
+-- the first byte of the block map
+abbrev pub mapStart : ℕ
+mapStart = 56
 
 -- the fewest bytes of a header: one map entry and the closing pair
 abbrev pub minHeader : ℕ
@@ -55,7 +77,7 @@ wordSum (a ∷ b ∷ rest) = a + 256 * b + wordSum rest
 unfoldable pub stateAt : List ℕ → ℕ → State
 stateAt s base =
     let n = entriesOf (headerLengthAt s) in
-    stateOf (take 16 (drop 16 s)) (le 8 s 32) (le 4 s 44) base n (wordsAt (2 * n) s 56)
+    stateOf (guidAt s) (lengthAt s) (attributesAt s) base n (wordsAt (2 * n) s mapStart)
 
 -- 104: header length not a multiple of 8, below 72, above 320 or past the lent bytes
 unfoldable pub headerLengthFault : ℕ → ℕ → Bool
@@ -69,8 +91,8 @@ mapFault s st = hasZero (mapOf st) || not (eqb (le 8 s (headerLengthAt s - 8)) 0
 unfoldable pub openRefusals : List ℕ → State → List Row
 openRefusals s st =
     row (ltb (length s) minHeader) 101
-    ∷ row (not (eqb (le 4 s 40) signature)) 102
-    ∷ row (not (eqb (getD s 55 0) revision)) 103
+    ∷ row (not (eqb (signatureAt s) signature)) 102
+    ∷ row (not (eqb (revisionAt s) revision)) 103
     ∷ row (headerLengthFault (headerLengthAt s) (length s)) 104
     ∷ row (not (eqb (wordSum (take (headerLengthAt s) s) % 65536) 0)) 105
     ∷ row (mapFault s st) 106

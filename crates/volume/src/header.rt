@@ -17,6 +17,30 @@ use crate::state::state_with;
 // "_FVH", as the little-endian number of its bytes.
 pub const SIGNATURE: u32 = 0x4856465F;
 
+// Where the fields of a header stand. The zero vector is before them.
+pub(crate) const FILE_SYSTEM_GUID: usize = 16;
+
+pub(crate) const LENGTH: usize = 32;
+
+pub(crate) const SIGNATURE_PLACE: usize = 40;
+
+pub(crate) const ATTRIBUTES: usize = 44;
+
+pub(crate) const HEADER_LENGTH: usize = 48;
+
+pub(crate) const CHECKSUM: usize = 50;
+
+pub(crate) const RESERVED: usize = 52;
+
+const REVISION: usize = 55;
+
+pub(crate) const BLOCK_MAP: usize = 56;
+
+// The header of one map entry, and that of 32.
+const SHORTEST_HEADER: usize = 72;
+
+const LONGEST_HEADER: usize = 320;
+
 // What opening answers: success, or the refusal's number in document 01 (101 to 110).
 pub enum Opening {
     Success,
@@ -63,16 +87,16 @@ fn refused(n: u16) -> Opened
 fn bytes_refusal(s: &[u8]) -> Opening
     ensures { λ r. ⌜ r ≡ answered (firstRefusal (take 5 (openRefusals (now (s .entry)) zeroState))) ⌝ }
 {
-    if s.len() < 72 {
+    if s.len() < SHORTEST_HEADER {
         return Opening::Refused(101);
     }
-    if numbers::u32_at(s, 40) != SIGNATURE {
+    if numbers::u32_at(s, SIGNATURE_PLACE) != SIGNATURE {
         return Opening::Refused(102);
     }
-    if numbers::byte_at(s, 55) != 1 {
+    if numbers::byte_at(s, REVISION) != 1 {
         return Opening::Refused(103);
     }
-    let header = numbers::u16_at(s, 48) as usize;
+    let header = numbers::u16_at(s, HEADER_LENGTH) as usize;
     if header_length_fault(header, s.len()) {
         return Opening::Refused(104);
     }
@@ -90,7 +114,7 @@ fn fields_refusal(s: &[u8], st: State) -> Opening
     let n = st.entries;
     let map = st.map;
     let end = 2 * n;
-    let closing = numbers::u16_at(s, 48) as usize - 8;
+    let closing = numbers::u16_at(s, HEADER_LENGTH) as usize - 8;
     if has_zero(&map[..end]) {
         return Opening::Refused(106);
     }
@@ -119,10 +143,10 @@ fn header_length_fault(header: usize, lent: usize) -> bool
     if header % 8 != 0 {
         return true;
     }
-    if header < 72 {
+    if header < SHORTEST_HEADER {
         return true;
     }
-    if 320 < header {
+    if LONGEST_HEADER < header {
         return true;
     }
     lent < header
@@ -147,13 +171,13 @@ fn state_at(s: &[u8], base: u64) -> State
     requires { ⌜ (32 ≤ length (now s)) × (64 ≤ headerLengthAt (now s)) × (headerLengthAt (now s) ≤ 320) ⌝ }
     ensures { λ r. ⌜ r ≡ stateAt (now (s .entry)) base ⌝ }
 {
-    let entries = (numbers::u16_at(s, 48) as usize - 64) / 8;
+    let entries = (numbers::u16_at(s, HEADER_LENGTH) as usize - 64) / 8;
     let guid = guid_at(s);
     let map = map_at(s, entries);
     state_with(
         guid,
-        numbers::u64_at(s, 32),
-        numbers::u32_at(s, 44),
+        numbers::u64_at(s, LENGTH),
+        numbers::u32_at(s, ATTRIBUTES),
         base,
         entries,
         map,
@@ -168,7 +192,7 @@ fn guid_at(s: &[u8]) -> [u8; 16]
     let mut guid = [0u8; 16];
     let mut i = 0;
     while i < 16 {
-        guid[i] = s[16 + i];
+        guid[i] = s[FILE_SYSTEM_GUID + i];
         i += 1;
     }
     guid
@@ -182,7 +206,7 @@ fn map_at(s: &[u8], n: usize) -> [u32; 64]
     let mut map = [0u32; 64];
     let mut i = 0;
     while i < 2 * n {
-        map[i] = numbers::u32_at(s, 56 + 4 * i);
+        map[i] = numbers::u32_at(s, BLOCK_MAP + 4 * i);
         i += 1;
     }
     map

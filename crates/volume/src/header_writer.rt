@@ -10,8 +10,19 @@ use crate::attributes::attributes_fault;
 use crate::block_map::has_zero;
 use crate::block_map::size_fault;
 use crate::block_map::wide;
+use crate::header::ATTRIBUTES;
+use crate::header::BLOCK_MAP;
+use crate::header::CHECKSUM;
+use crate::header::FILE_SYSTEM_GUID;
+use crate::header::HEADER_LENGTH;
+use crate::header::LENGTH;
+use crate::header::RESERVED;
 use crate::header::SIGNATURE;
+use crate::header::SIGNATURE_PLACE;
 use crate::header::word_sum;
+
+// Three reserved zeros, then revision 1, as one little-endian number.
+const RESERVED_AND_REVISION: u64 = 0x0100_0000;
 
 // What writing a header answers: its length, or the refusal's number in document 01 (106, 107, 108, 5).
 pub enum Written {
@@ -52,7 +63,7 @@ pub fn write_header(
     store_fields(guid, len, attributes, n, room);
     store_map(map, room);
     let sum = word_sum(&room[..header]) % 65536;
-    numbers::store(room, 50, 2, (65536 - sum) % 65536);
+    numbers::store(room, CHECKSUM, 2, (65536 - sum) % 65536);
     Written::Success(header)
 }
 
@@ -63,13 +74,13 @@ fn store_fields(guid: [u8; 16], len: u64, attributes: u32, n: usize, room: &mut 
 {
     numbers::store(room, 0, 8, 0);
     numbers::store(room, 8, 8, 0);
-    numbers::store_bytes(room, 16, &guid);
-    numbers::store(room, 32, 8, len);
-    numbers::store(room, 40, 4, SIGNATURE as u64);
-    numbers::store(room, 44, 4, attributes as u64);
-    numbers::store(room, 48, 2, 64 + 8 * n as u64);
-    numbers::store(room, 50, 2, 0);
-    numbers::store(room, 52, 4, 0x0100_0000);
+    numbers::store_bytes(room, FILE_SYSTEM_GUID, &guid);
+    numbers::store(room, LENGTH, 8, len);
+    numbers::store(room, SIGNATURE_PLACE, 4, SIGNATURE as u64);
+    numbers::store(room, ATTRIBUTES, 4, attributes as u64);
+    numbers::store(room, HEADER_LENGTH, 2, 64 + 8 * n as u64);
+    numbers::store(room, CHECKSUM, 2, 0);
+    numbers::store(room, RESERVED, 4, RESERVED_AND_REVISION);
 }
 
 // Stores map words and the closing pair, from byte 56 on.
@@ -79,8 +90,8 @@ fn store_map(map: &[u32], room: &mut [u8])
 {
     let mut i = 0;
     while i < map.len() {
-        numbers::store(room, 56 + 4 * i, 4, wide(map[i]));
+        numbers::store(room, BLOCK_MAP + 4 * i, 4, wide(map[i]));
         i += 1;
     }
-    numbers::store(room, 56 + 4 * i, 8, 0);
+    numbers::store(room, BLOCK_MAP + 4 * i, 8, 0);
 }

@@ -3,7 +3,7 @@
 //
 // Every public function answers every input and has no `requires`. A refusal carries document 01's number,
 // and changes no lent byte and no state.
-pub mod access;
+mod access;
 pub mod attributes;
 pub mod block_map;
 pub mod blocks;
@@ -11,5 +11,5 @@ pub mod erase;
 pub mod header;
 pub mod header_writer;
 pub mod service;
-pub mod settings;
+mod settings;
 pub mod state;

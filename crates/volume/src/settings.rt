@@ -69,7 +69,7 @@ pub(crate) fn lacks_capability(old: u32, new: u32) -> bool
 }
 
 // Whether the attribute of this value, a power of two, is set.
-pub(crate) fn has(a: u32, bit: u32) -> bool
+fn has(a: u32, bit: u32) -> bool
     requires { ⌜ 0 < bit ⌝ }
     ensures { λ r. ⌜ r ≡ flag a bit ⌝ }
 {
