@@ -12,6 +12,7 @@ Case = namedtuple("Case", "name script lines numbers")     # numbers: the answer
 
 WORKING = 4096      # bytes of a working volume
 ROOM = 512          # bytes of a header's room and of a section buffer
+LISTING = 1024      # bytes of a listing's room
 BLOCK = 65536       # bytes that are looked at together; the pattern repeats after as many
 PRIME = 4294967291
 ERASED = (0xFF00, 0)
@@ -114,11 +115,14 @@ def header_writing(name, room, guid, length, attributes, map_words, pattern=PATT
     return Case(name, script, [line(name, "write header", *fields)], [no])
 
 
-def listing(name, own, lent, room=1024, pattern=ERASED):
+def listing(name, own, lent, room=LISTING, pattern=ERASED):
     text = volume.listing(prepared(own, pattern, WORKING)[:lent])
-    fields = [0, len(text), text.replace("\n", "|")] if len(text) <= room else [5, ""]
-    script = items(name.encode(), number(2), number(lent), number(room), own, pattern_item(pattern))
-    return Case(name, script, [line(name, "list", *fields)], [fields[0]])
+    before = prepared(b"", PATTERN, LISTING)
+    fits = len(text) <= room
+    after = prepared(text.encode() if fits else b"", PATTERN, LISTING)
+    fields = [0, len(text), text.replace("\n", "|")] if fits else [5, ""]
+    script = items(name.encode(), number(2), number(lent), number(room), own, pattern_item(pattern), pattern_item(PATTERN), b"")
+    return Case(name, script, [line(name, "list", *fields, *change_fields(before, after))], [fields[0]])
 
 
 def state_item(state):

@@ -191,7 +191,7 @@ def writing_cases():
     yield header_writing("GUID and a map of four entries", 100, GUID, 1536, 0x8FFF8E00 | 0x3F, MIXED_MAP)
     yield header_writing("32 entries into 320 bytes", 320, GUID, 2112, 0x063F, FULL_MAP)
     yield header_writing("32 entries into 319 bytes: 5", 319, GUID, 2112, 0x063F, FULL_MAP)
-    yield header_writing("checksum 0 needs no carry", 72, words_to_zero(), 2048, A_ATTRIBUTES, A_MAP)
+    yield header_writing("words that sum to 0 get checksum 0", 72, words_to_zero(), 2048, A_ATTRIBUTES, A_MAP)
     yield header_writing("the smallest volume", 72, GUID, 72, 0, [1, 72])
     for name, words in (("first word 0", [0, 512]), ("second word 0", [4, 0]), ("both 0", [0, 0]),
                         ("a word of the second pair 0", [4, 512, 0, 1]), ("one word", [4]), ("three words", [4, 512, 1]),

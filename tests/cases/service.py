@@ -18,7 +18,7 @@ from model.volume import State
 from trial import ERASED, WORKING, run
 
 ALL = 0x003F            # read and write enabled, each with both capabilities
-STICKY, MAPPED, ONES, LOCK = 0x200, 0x400, 0x800, 0x40
+STICKY, MAPPED, ONES = 0x200, 0x400, 0x800
 MIXED = header(MIXED_MAP, attributes=ALL | ONES, guid=GUID)
 KINDS = (("plain, erases to ones", ALL | ONES), ("plain, erases to zeros", ALL),
          ("sticky, erases to ones", ALL | ONES | STICKY), ("sticky, erases to zeros", ALL | STICKY))
@@ -109,6 +109,9 @@ def write_rule_cases():
         calls = [erase(2, 1, END), write(2, 0, data), read(2, 0, 8), write(2, 0, b"\x00\xff" * 4), read(2, 0, 8)]
         yield run("erase, write, write over it: " + kind, own, calls)
         yield run("a write past the block's end stays in the block: " + kind, own, [write(1, 508, data), read(2, 0, 4)])
+        own = header(MIXED_MAP, attributes=attributes)
+        calls = [write(1, 252, data), write(1, 252, data[::-1]), write(4, 0, data), write(5, 504, data), erase(4, 2, END), write(4, 120, data), read(5, 504, 8)]
+        yield run("over blocks of three lengths: " + kind, own, calls)
 
 
 def erase_cases():
@@ -247,7 +250,8 @@ def lawful_cases():
             "not mapped at 4": given(base=4), "every alignment with 0x8000": given(attributes=0xFFFF8000 | ALL)}
     calls = [("settings",), ("size", 0), read(0, 0, 4), write(0, 0, b"\x00"), erase(0, 1, END)]
     for name, state in ways.items():
-        yield run("state with %s is lawful" % name, b"", calls, state=state)
+        own = [("address",), ("set", state.attributes)] if state.attributes & MAPPED else [("set", state.attributes)]
+        yield run("state with %s is lawful" % name, b"", calls + own, state=state)
     state = given([65536, 1], 65536)
     yield run("65,536 blocks are lawful: 2, 5", b"", [("size", 0), ("size", 65535), ("size", 65536), read(0, 0, 1)], state=state)
     state = given([1, 16777216], 16777216)

@@ -90,37 +90,35 @@ fn write_in(case: &[u8], guid: [u8; 16], words: &[u32], room: &mut [u8]) {
     }
 }
 
-// Listing: the lent length, the room's length, the header's bytes, the pattern behind them.
+// Listing: the lent length, the room's length, the header's bytes and the pattern behind them, the pattern
+// and the bytes that the room holds before.
 pub(crate) fn list_case(case: &[u8]) {
     let mut volume = [0u8; 4096];
     prepare(item(case, 4), item(case, 5), &mut volume);
+    let mut before = [0u8; 1024];
+    prepare(item(case, 7), item(case, 6), &mut before);
     let mut room = [0u8; 1024];
+    prepare(item(case, 7), item(case, 6), &mut room);
     begin(case, b"list");
-    list_in(case, prefix(&volume, number(case, 2) as usize), &mut room);
+    let len = list_in(case, prefix(&volume, number(case, 2) as usize), &mut room);
+    lines_field(prefix(&room, len));
+    change_fields(&before, &room);
     end();
 }
 
-fn list_in(case: &[u8], volume: &[u8], room: &mut [u8]) {
+// The length of the listing; 0 on a refusal.
+fn list_in(case: &[u8], volume: &[u8], room: &mut [u8]) -> usize {
     let n = least(number(case, 3) as usize, room.len());
     let answer = list_volume(volume, &mut room[..n]);
     match answer {
         Listed::Success(len) => {
             field(0);
             field(len as u64);
+            len
         }
-        Listed::Refused(no) => field(no as u64),
-    }
-    lines_field(until_zero(room));
-}
-
-// The bytes before the first zero.
-fn until_zero<'a>(s: &'a [u8]) -> &'a [u8] {
-    let mut i = 0;
-    while i < s.len() {
-        if s[i] == 0 {
-            return prefix(s, i);
+        Listed::Refused(no) => {
+            field(no as u64);
+            0
         }
-        i += 1;
     }
-    s
 }

@@ -25,7 +25,7 @@ fn main() {
     run_input(&mut input);
 }
 
-// A function that is lent an array has it by its length alone; no proof looks into it, however long.
+// Proofs take an array that is lent by its length alone; one of the function's own they write out, byte by byte.
 fn run_input(input: &mut [u8; SCRIPT]) {
     run_read(input);
 }

@@ -39,17 +39,17 @@ cast-field c = search needs
 field-requires-3 : tie.Need-field-requires-3
 field-requires-3 c κs = search needs
 
-until-zero-requires : tie.Need-until-zero-requires
-until-zero-requires c κs = search needs
-
-lines-field-requires : tie.Need-lines-field-requires
-lines-field-requires c κs = search needs
-
 same-length : tie.Need-same-length
 same-length c = search needs
 
 returns : tie.Need-returns
 returns c = search needs
+
+same-length-2 : tie.Need-same-length-2
+same-length-2 c = search needs
+
+returns-2 : tie.Need-returns-2
+returns-2 c = search needs
 
 pub list-in-spec : {M : Type 1} → statement M
 list-in-spec =
@@ -66,7 +66,7 @@ list-in-spec =
     enum-known-answer-2
     cast-field
     field-requires-3
-    until-zero-requires
-    lines-field-requires
     same-length
-    returns)
+    returns
+    same-length-2
+    returns-2)
