@@ -52,6 +52,7 @@ mapLines first (count ∷ len ∷ rest) = mapLine first count len ++ mapLines (f
 unfoldable pub refusedLine : ℕ → List ℕ
 refusedLine n = refusedWord ++ (field n ++ (lineFeed ∷ []))
 
+-- the lines of what opening answered: the volume's and its map's, or the refusal's
 unfoldable pub linesOf : Opening → State → List ℕ
 linesOf Opening.Success st = volumeLine (st .length) (st .attributes) (st .entries) ++ mapLines 0 (mapOf st)
 linesOf (Opening.Refused n) st = refusedLine n
@@ -69,14 +70,16 @@ unfoldable pub listedNumber : Listed → ℕ
 listedNumber (Listed.Success k) = 0
 listedNumber (Listed.Refused n) = n
 
--- what the call answers, and the room afterwards: the text at the room's start, or 5 where it does not fit and the room as it was
+-- what the call answers, and the room afterwards
 pub record ListedRoom : Type 0 where
   pub answer : Listed
   pub room : List ℕ
 
+-- the text at the room's start, or, where it is too long, 5 and the room as it was
 unfoldable pub listedBy : Bool → List ℕ → List ℕ → ListedRoom
 listedBy true text room = record { answer = Listed.Refused 5; room = room }
 listedBy false text room = record { answer = Listed.Success (length text); room = text ++ drop (length text) room }
 
+-- listing a volume's bytes into a room
 unfoldable pub listVolume : List ℕ → List ℕ → ListedRoom
 listVolume s room = listedBy (ltb (length room) (length (listing s))) (listing s) room

@@ -82,7 +82,7 @@ orFault (some n) h = Fault n
 unfoldable pub headAt : List ℕ → ℕ → Head
 headAt s at = orFault (firstRefusal (headFaults s at)) (sectionAt s at)
 
--- private to the code's contracts: a holder that passed 201 to 203, with its type and size, as the reader of its own fields is given it
+-- private to the code's contracts: a holder lies whole at byte `at` of a stream, past 201 to 203, with its type and size
 pub record Lies (s : List ℕ) (at kind size : ℕ) : Type 0 where
   pub sized : size ≡ sizeAt s at
   pub typed : kind ≡ typeAt s at

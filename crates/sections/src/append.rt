@@ -72,7 +72,8 @@ fn store_leaf(buffer: &mut [u8], used: usize, kind: u8, body: &[u8])
     copy(&mut buffer[from..end], body);
 }
 
-// Copies the source into the destination, as far as both go.
+// Copies the source into the destination, as far as both go. A plain loop over two slices, which compiles to
+// memcpy; `numbers::store_bytes`, at any place, tests a bound at every byte.
 fn copy(dst: &mut [u8], src: &[u8])
     ensures { λ _. ⌜ now (dst .exit) ≡ sets (now (dst .entry)) 0 (now (src .entry)) ⌝ }
 {
