@@ -139,14 +139,6 @@ not-or : (a b : Bool) → T (not a) → T (not b) → T (not (a || b))
 not-or true b p q = absurd p
 not-or false b p q = q
 
-not-or-left : (a b : Bool) → T (not (a || b)) → T (not a)
-not-or-left true b p = absurd p
-not-or-left false b p = tt
-
-not-or-right : (a b : Bool) → T (not (a || b)) → T (not b)
-not-or-right true b p = absurd p
-not-or-right false b p = p
-
 -- one call on both volumes: the effect is the same, since it is decided from the state, the length and the arguments
 module _ (X : ℕ → Type 0) (st : State) (v w : List ℕ) (c : Call) (h : length v ≡ length w) where
   other-step : step st w c ≡ perform st w (bufferOf c) (decide st (length v) c)

@@ -17,7 +17,7 @@ use Rattle.sections.specs.Kinds.{kindOf}
 use Rattle.sections.specs.Header.{isHolder}
 use Rattle.sections.specs.Walk.{Trace, done, section, andThen, aligned, part, walk, streamLimit, streamWalk}
 use Rattle.sections.specs.Search.{Section, sections, firstFault, ofType, shown, searchOf, WellFormed, countOf}
-use Rattle.sections.specs.Append.{leafSize, sizeLimit, usedAfter, leaf, added, appendRefusals, appendOf, bufferAfter}
+use Rattle.sections.specs.Append.{leafSize, sizeLimit, usedAfter, added, appendRefusals, appendOf, bufferAfter}
 use Rattle.sections.specs.declared.append.Appended.{Appended}
 use Rattle.sections.specs.declared.append.Appended.the-variants as appended
 use Rattle.sections.specs.declared.search.Found.the-variants.{Part, Refused}

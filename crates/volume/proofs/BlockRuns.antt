@@ -10,7 +10,7 @@ use lib.Dec.{ltb}
 use lib.ListN.{length, getD, drop, length-drop}
 use Rattle.common.proofs.Lists.{drop-two}
 use Rattle.volume.specs.BlockMap.{blocks, bytes}
-use Rattle.volume.specs.Blocks.{placeFrom, place, holds, firstByte}
+use Rattle.volume.specs.Blocks.{placeFrom, place, firstByte}
 use Rattle.volume.specs.declared.blocks.Place.the-variants.{At, Missing}
 use Rattle.volume.proofs.BlockMap.{blocks-entry, bytes-entry}
 use Rattle.volume.proofs.Places.{firstByte-zero, firstByte-here, firstByte-past, firstByte-le}

@@ -15,7 +15,7 @@ use Rattle.volume.specs.Access.{countMoved}
 use Rattle.volume.specs.Attributes.{attributesFault, baseFault}
 use Rattle.volume.specs.BlockMap.{blocks, bytes}
 use Rattle.volume.specs.Blocks.{place, lengthOf, leftOf, inBlock, blockAt}
-use Rattle.volume.specs.Service.{refused, success, Call, getAttributes, setAttributes, getPhysicalAddress, getBlockSize, read, write, eraseBlocks, keep, Effect, reply, setTo, copyOut, change, refusals, effect, decide, Result, withAttributes, perform, bufferOf, step}
+use Rattle.volume.specs.Service.{refused, success, Call, getAttributes, setAttributes, getPhysicalAddress, getBlockSize, read, write, eraseBlocks, Effect, reply, setTo, copyOut, change, refusals, effect, decide, Result, withAttributes, perform, bufferOf, step}
 use Rattle.volume.specs.Settings.{changesFixed, settingRefusals}
 use Rattle.volume.specs.State.{stateWith, mapOf, unlawful}
 use Rattle.volume.specs.declared.state.State.{State}
@@ -26,7 +26,7 @@ use Rattle.volume.proofs.Lawful.{lawful}
 use Rattle.volume.proofs.Places.{in-some-block, in-one-block, found-within, place-lost, past-every-block}
 use Rattle.volume.proofs.BlockRuns.{run-places, run-ends}
 use Rattle.volume.proofs.Steps.{refused-step, allowed-step}
-use Rattle.volume.proofs.StepLaws.{effect-answers, passed, passed-success, passed-write, passed-erase, erase-other, write-other}
+use Rattle.volume.proofs.StepLaws.{effect-answers, passed-success, passed-write, passed-erase, erase-other, write-other}
 
 -- ---- what no call changes
 

@@ -121,10 +121,7 @@ placed m b k = go (place m b) refl
     go (At e s l r) at = record { entry = e; start = s; len = l; left = r; there = at }
     go Missing at = absurd (omega (arith, place-lost m b at))
 
--- so has the block of a read or a write that is not refused
-pub read-placed : (st : State) (n b o : ℕ) (buffer : List ℕ) → firstRefusal (refusals st n (read b o buffer)) ≡ none → Placed (mapOf st) b
-read-placed st n b o buffer e = placed (mapOf st) b (leb-false _ _ (passed-read st n b o buffer e .last))
-
+-- so has the block of a write that is not refused
 pub write-placed : (st : State) (n b o : ℕ) (new : List ℕ) → firstRefusal (refusals st n (write b o new)) ≡ none → Placed (mapOf st) b
 write-placed st n b o new e = placed (mapOf st) b (leb-false _ _ (passed-write st n b o new e .last))
 
