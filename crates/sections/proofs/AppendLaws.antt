@@ -1,14 +1,13 @@
--- Laws of appending: the loop that copies the body, stores one after another, and the whole leaf.
+-- Laws of appending: stores one after another, the whole leaf, and the refusals.
 use Prim.Native.Nat.{ℕ, zero, suc, _+_, _-_, _%_, _≤_, _<_}
 use mathlib.Core.Path.{_≡_, refl, sym, ap, _∙_}
 use mathlib.Core.List.{List, [], _∷_, _++_, append-assoc, append-nil}
-use native.Mathlib.Nat.{add-zero}
-use native.Mathlib.Numerals.{add-one}
 use native.Mathlib.Omega.{arith}
 use borrow.Author.Tests.{lt-ltb, le-ltb, eq-eqb, ne-eqb}
-use lib.ListN.{length, getD, take, drop, set, replicate, length-append, length-drop, length-replicate, drop-of-length-le}
-use lib.Seq.{sets, length-sets, sets-eq, drop-cons, drop-drop, length-take-le}
+use lib.ListN.{length, take, drop, replicate, length-append, length-drop, length-replicate, drop-of-length-le}
+use lib.Seq.{sets, length-sets, sets-eq, drop-drop, length-take-le}
 use Rattle.common.specs.Refusals.{firstRefusal}
+use Rattle.common.proofs.Lists.{sets-append}
 use Rattle.numbers.specs.LittleEndian.{leBytes}
 use Rattle.numbers.proofs.LittleEndian.{length-leBytes}
 use Rattle.sections.specs.Kinds.{compression, guidDefined, kindOf}
@@ -16,20 +15,6 @@ use Rattle.sections.specs.Walk.{aligned, streamLimit}
 use Rattle.sections.specs.Append.{leafSize, sizeLimit, usedAfter, leaf, added, appendRefusals, orRefused, appendOf, bufferAfter, numberOf}
 use Rattle.sections.specs.declared.append.Appended.{Appended}
 use Rattle.sections.specs.declared.append.Appended.the-variants.{Used, Refused}
-
--- the copy with i bytes stored: one byte more, or the source at its end
-pub copy-more : (d s : List ℕ) (i : ℕ) → i < length s → sets (set d i (getD s i 0)) (i + 1) (drop (i + 1) s) ≡ sets d i (drop i s)
-copy-more d s i h = rw (add-one, drop-cons s i 0 h)
-
-pub copy-end : (d s : List ℕ) (i : ℕ) → length s ≤ i → sets d i (drop i s) ≡ d
-copy-end d s i h = rw (drop-of-length-le s {i = i} h)
-
--- two runs of stores, one right after the other, are one
-pub sets-append : (a b l : List ℕ) (i : ℕ) → sets (sets l i a) (i + length a) b ≡ sets l i (a ++ b)
-sets-append [] b l i = rw add-zero
-sets-append (v ∷ a) b l i =
-    let e : i + suc (length a) ≡ suc i + length a = omega arith in
-    rw e (sets-append a b (set l i v) (suc i))
 
 -- a run of stores into a part that is as long as it is the same run into the whole
 pub sets-part : (b l : List ℕ) (at n : ℕ) → n ≡ length b → at + n ≤ length l
@@ -52,7 +37,7 @@ one-byte x h = let e : x % 256 ≡ x = omega arith in rw e
 
 -- stores that begin where those before them end
 then-sets : (a b l m : List ℕ) (i j : ℕ) → m ≡ sets l i a → j ≡ i + length a → sets m j b ≡ sets l i (a ++ b)
-then-sets a b l m i j e q = rw (e, q) (sets-append a b l i)
+then-sets a b l m i j e q = rw (e, q) (sym (sets-append a b l i))
 
 -- padding, size, type and body stored one after another are the leaf stored with its padding
 pub leaf-stored : (l l₁ l₂ l₃ body w : List ℕ) (used start kind k : ℕ) → start ≡ aligned used → kind < 256 → k ≡ length body → start + 4 + k ≤ length l

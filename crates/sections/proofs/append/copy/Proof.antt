@@ -1,14 +1,14 @@
 -- `copy` meets its contract. The loop's invariant: the stores still to come give the whole result.
 use Prim.Native.Nat.{_≤_, _-_}
 use mathlib.Core.Path.{_≡_, sym, _∙_}
+use native.Mathlib.Nat.{zero-add}
 use native.Mathlib.Omega.{arith}
 use borrow.Author.Needs.{needs}
 use borrow.Author.Tests.{ltb-true, ltb-false}
 use denote.Ref.{now}
 use lib.ListN.{length, drop, length-set}
 use lib.Seq.{sets}
-use Rattle.common.proofs.Lists.{sets-past}
-use Rattle.sections.proofs.AppendLaws.{copy-more, copy-end}
+use Rattle.common.proofs.Lists.{sets-past, sets-none, sets-next}
 use Rattle.sections.proofs.append.copy.Statement.{statement}
 use Rattle.sections.proofs.append.copy.Tie as tie
 
@@ -37,8 +37,8 @@ loop-again : tie.Need-loop-again Inv-loop μ-loop
 loop-again c = (
   omega (arith, ltb-true),
   simp length-set (search needs),
-  copy-more _ (now (c .before .before .before .before .args .src))
-      (c .before .before .before .loop .i) (omega (arith, ltb-true)) ∙ c .before .before .before .loop .inv .2,
+  sym (simp zero-add at (sets-next (now (c .before .before .before .before .args .src)) (c .before .before .before .loop .dst) 0
+      (c .before .before .before .loop .i) (omega (arith, ltb-true)))) ∙ c .before .before .before .loop .inv .2,
 )
 
 same-length : tie.Need-same-length Inv-loop μ-loop
@@ -46,8 +46,8 @@ same-length c = search needs
 
 returns : tie.Need-returns Inv-loop μ-loop
 returns c =
-    sym (sym (c .before .before .loop .inv .2) ∙ copy-end (c .before .before .loop .dst) (now (c .before .before .before .args .src))
-    (c .before .before .loop .i) (omega (arith, ltb-false)))
+    sym (sym (c .before .before .loop .inv .2) ∙ sets-none (now (c .before .before .before .args .src)) (c .before .before .loop .dst)
+    (c .before .before .loop .i) (c .before .before .loop .i) (omega (arith, ltb-false)))
 
 same-length-2 : tie.Need-same-length-2 Inv-loop μ-loop
 same-length-2 c = search needs
