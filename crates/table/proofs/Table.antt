@@ -15,7 +15,6 @@ use Rattle.volume.specs.Header.{openVolume, answered, stateBeside, stateAt, wor
 use Rattle.volume.specs.Service.{refusals, moveAnswer, writeChange, eraseChange, effect, unless, decide, withAttributes, edit, changedByte, perform, bufferOf, Result, numberOf, valuesOf, Call, setAttributes, read, write, eraseBlocks, step}
 use Rattle.volume.specs.Settings.{changesFixed, raises, clears, lacksCapability, settingRefusals}
 use Rattle.volume.specs.State.{mapOf, stateOf, stateWith, zeroState, unlawful}
-use Rattle.volume.specs.declared.state.State.{State}
 use Rattle.volume.specs.declared.header.Opening.the-variants as Opening
 use Rattle.sections.specs.Kinds.{kindOf}
 use Rattle.sections.specs.Header.{headAt, headFaults, sectionAt, packed, contentsAt, wrongContents}
@@ -23,11 +22,9 @@ use Rattle.sections.specs.Walk.{streamWalk, walk, siblings, meet, afterPadding,
 use Rattle.sections.specs.Search.{searchOf, sections, firstFault, ofType}
 use Rattle.sections.specs.declared.search.Found.the-variants as Found
 use Rattle.isolation.specs.SampleA.{headerA, sampleA}
+use Rattle.isolation.proofs.Instances.{stateA}
 
--- the state that opening sample A answers, and a call on it and on A
-unfoldable pub stateA : State
-stateA = openVolume sampleA 0 .state
-
+-- a call on sample A and the state that opening it answers
 unfoldable pub onA : Call → Result
 unfolding stateA
 onA call = step stateA sampleA call
