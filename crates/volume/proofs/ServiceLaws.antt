@@ -1,16 +1,16 @@
 -- What holds of all the calls: bytes past the state's length never change; every byte below the length lies in exactly one block; what the number that
 -- block size answers counts; and a lawful state stays lawful.
-use Prim.Native.Nat.{ℕ, _+_, _-_, _*_, _/_, _%_, _≤_, _<_}
+use Prim.Native.Nat.{ℕ, _+_, _-_, _*_, _/_, _≤_, _<_}
 use mathlib.Core.Path.{_≡_, refl, sym, ap, _∙_}
-use mathlib.Core.Bool.{false, not}
+use mathlib.Core.Bool.{false}
 use mathlib.Core.List.{List, [], _∷_}
 use mathlib.Core.Option.{Option, none, some}
 use native.Mathlib.Omega.{arith}
-use borrow.Author.Tests.{leb-false, eqb-true, not-false}
-use lib.Dec.{T, leb, eqb}
+use borrow.Author.Tests.{leb-false}
+use lib.Dec.{T, leb}
 use lib.ListN.{length, getD}
 use Rattle.common.specs.Refusals.{row, firstRefusal, any}
-use Rattle.common.proofs.Refusals.{row-passed, any-passed}
+use Rattle.common.proofs.Refusals.{row-passed}
 use Rattle.volume.specs.Access.{countMoved}
 use Rattle.volume.specs.Attributes.{attributesFault, baseFault}
 use Rattle.volume.specs.BlockMap.{blocks, bytes}
@@ -23,6 +23,7 @@ use Rattle.volume.specs.declared.blocks.Place.{Place}
 use Rattle.volume.specs.declared.blocks.Place.the-variants.{At, Missing}
 use Rattle.volume.proofs.Edit.{length-edit}
 use Rattle.volume.proofs.Lawful.{lawful}
+use Rattle.volume.proofs.SettingRules.{fixed-same}
 use Rattle.volume.proofs.Places.{in-some-block, in-one-block, found-within, place-lost, past-every-block}
 use Rattle.volume.proofs.BlockRuns.{run-places, run-ends}
 use Rattle.volume.proofs.Steps.{refused-step, allowed-step}
@@ -142,13 +143,7 @@ same-base old new base e = let a : new / 0x400 ≡ old / 0x400 = omega arith in 
 
 -- settings that were set keep the fixed bits above the lock
 kept-high : (old new : ℕ) → changesFixed old new ≡ false → old / 0x100 ≡ new / 0x100
-unfolding changesFixed
-kept-high old new e =
-    let a = any-passed (not (eqb (old % 0x4) (new % 0x4))) _ e in
-    let b = any-passed (not (eqb (old / 0x8 % 4) (new / 0x8 % 4))) _ (a .1) in
-    let c = any-passed (not (eqb (old / 0x40 % 2) (new / 0x40 % 2))) _ (b .1) in
-    let d = any-passed (not (eqb (old / 0x100) (new / 0x100))) _ (c .1) in
-    eqb-true _ _ (not-false _ (d .0))
+kept-high old new e = fixed-same old new e .high
 
 set-lawful : (st : State) (new : ℕ) → attributesFault new ≡ attributesFault (st .attributes) → baseFault new (st .base) ≡ baseFault (st .attributes) (st .base)
     → unlawful st ≡ false → unlawful (withAttributes st new) ≡ false

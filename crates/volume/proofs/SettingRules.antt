@@ -60,29 +60,43 @@ low-bits x y e = (low x y e, second x y e)
     second : (x y : ℕ) → x % 4 ≡ y % 4 → x / 2 % 2 ≡ y / 2 % 2
     second x y e = omega arith
 
--- where no fixed bit is changed, the settings agree at every bit but 4 (2 ^ 2), 0x20 (2 ^ 5) and 0x80 (2 ^ 7)
-pub fixed-bits : (old new : ℕ) → changesFixed old new ≡ false → (k : ℕ) → (k ≡ 2 → ⊥) → (k ≡ 5 → ⊥) → (k ≡ 7 → ⊥)
-    → old / 2 ^ k % 2 ≡ new / 2 ^ k % 2
+-- two settings agree in every fixed bit: all but 4, 0x20 and 0x80
+pub record SameFixed (old new : ℕ) : Type 0 where
+  pub read-caps : old % 0x4 ≡ new % 0x4
+  pub write-caps : old / 0x8 % 4 ≡ new / 0x8 % 4
+  pub lock-cap : old / 0x40 % 2 ≡ new / 0x40 % 2
+  pub high : old / 0x100 ≡ new / 0x100
+
+-- settings that change no fixed bit do
+pub fixed-same : (old new : ℕ) → changesFixed old new ≡ false → SameFixed old new
 unfolding changesFixed
-fixed-bits old new e k two five seven =
+fixed-same old new e =
     let a = any-passed (not (eqb (old % 0x4) (new % 0x4))) _ e in
     let b = any-passed (not (eqb (old / 0x8 % 4) (new / 0x8 % 4))) _ (a .1) in
     let c = any-passed (not (eqb (old / 0x40 % 2) (new / 0x40 % 2))) _ (b .1) in
     let d = any-passed (not (eqb (old / 0x100) (new / 0x100))) _ (c .1) in
-    bits k two five seven
-    (eqb-true (old % 0x4) (new % 0x4) (not-false _ (a .0))) (eqb-true (old / 0x8 % 4) (new / 0x8 % 4) (not-false _ (b .0)))
-    (eqb-true (old / 0x40 % 2) (new / 0x40 % 2) (not-false _ (c .0))) (eqb-true (old / 0x100) (new / 0x100) (not-false _ (d .0)))
+    record {
+      read-caps = eqb-true _ _ (not-false _ (a .0));
+      write-caps = eqb-true _ _ (not-false _ (b .0));
+      lock-cap = eqb-true _ _ (not-false _ (c .0));
+      high = eqb-true _ _ (not-false _ (d .0));
+    }
+
+-- where no fixed bit is changed, the settings agree at every bit but 4 (2 ^ 2), 0x20 (2 ^ 5) and 0x80 (2 ^ 7)
+pub fixed-bits : (old new : ℕ) → changesFixed old new ≡ false → (k : ℕ) → (k ≡ 2 → ⊥) → (k ≡ 5 → ⊥) → (k ≡ 7 → ⊥)
+    → old / 2 ^ k % 2 ≡ new / 2 ^ k % 2
+fixed-bits old new e k two five seven = bits k two five seven (fixed-same old new e)
   where
-    bits : (k : ℕ) → (k ≡ 2 → ⊥) → (k ≡ 5 → ⊥) → (k ≡ 7 → ⊥) → old % 0x4 ≡ new % 0x4 → old / 0x8 % 4 ≡ new / 0x8 % 4
-        → old / 0x40 % 2 ≡ new / 0x40 % 2 → old / 0x100 ≡ new / 0x100 → old / 2 ^ k % 2 ≡ new / 2 ^ k % 2
-    bits zero p q r a b c d = rw (div-one, div-one) (low-bits old new a .0)
-    bits (suc zero) p q r a b c d = low-bits old new a .1
-    bits (suc (suc zero)) p q r a b c d = absurd (p refl)
-    bits (suc (suc (suc zero))) p q r a b c d = low-bits (old / 8) (new / 8) b .0
-    bits (suc (suc (suc (suc zero)))) p q r a b c d = rw (div-div-eq-div-mul old 8 2, div-div-eq-div-mul new 8 2) at (low-bits (old / 8) (new / 8) b .1)
-    bits (suc (suc (suc (suc (suc zero))))) p q r a b c d = absurd (q refl)
-    bits (suc (suc (suc (suc (suc (suc zero)))))) p q r a b c d = c
-    bits (suc (suc (suc (suc (suc (suc (suc zero))))))) p q r a b c d = absurd (r refl)
-    bits (suc (suc (suc (suc (suc (suc (suc (suc k)))))))) p q r a b c d =
+    bits : (k : ℕ) → (k ≡ 2 → ⊥) → (k ≡ 5 → ⊥) → (k ≡ 7 → ⊥) → SameFixed old new → old / 2 ^ k % 2 ≡ new / 2 ^ k % 2
+    bits zero p q r f = rw (div-one, div-one) (low-bits old new (f .read-caps) .0)
+    bits (suc zero) p q r f = low-bits old new (f .read-caps) .1
+    bits (suc (suc zero)) p q r f = absurd (p refl)
+    bits (suc (suc (suc zero))) p q r f = low-bits (old / 8) (new / 8) (f .write-caps) .0
+    bits (suc (suc (suc (suc zero)))) p q r f =
+        rw (div-div-eq-div-mul old 8 2, div-div-eq-div-mul new 8 2) at (low-bits (old / 8) (new / 8) (f .write-caps) .1)
+    bits (suc (suc (suc (suc (suc zero))))) p q r f = absurd (q refl)
+    bits (suc (suc (suc (suc (suc (suc zero)))))) p q r f = f .lock-cap
+    bits (suc (suc (suc (suc (suc (suc (suc zero))))))) p q r f = absurd (r refl)
+    bits (suc (suc (suc (suc (suc (suc (suc (suc k)))))))) p q r f =
         let e : 2 ^ suc (suc (suc (suc (suc (suc (suc (suc k))))))) ≡ 256 * 2 ^ k = omega arith in
-        rw (e, ← div-div-eq-div-mul old 256 (2 ^ k), ← div-div-eq-div-mul new 256 (2 ^ k), d)
+        rw (e, ← div-div-eq-div-mul old 256 (2 ^ k), ← div-div-eq-div-mul new 256 (2 ^ k), f .high)
