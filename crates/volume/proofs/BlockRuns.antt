@@ -15,18 +15,6 @@ use Rattle.volume.specs.declared.blocks.Place.the-variants.{At, Missing}
 use Rattle.volume.proofs.BlockMap.{blocks-entry, bytes-entry}
 use Rattle.volume.proofs.Places.{firstByte-zero, firstByte-here, firstByte-past, firstByte-le}
 
--- an entry's number is at least that of the entry at which the search starts
-entry-from : (m : List ℕ) (e s b e' s' l' r' : ℕ) → placeFrom m e s b ≡ At e' s' l' r' → e ≤ e'
-unfolding placeFrom
-entry-from [] e s b e' s' l' r' h = absurd (let z : _≡_ {A = ℕ} 0 1 = cc in omega arith)
-entry-from (c ∷ []) e s b e' s' l' r' h = absurd (let z : _≡_ {A = ℕ} 0 1 = cc in omega arith)
-entry-from (c ∷ l ∷ rest) e s b e' s' l' r' h = go (ltb b c) (entry-from rest (e + 1) (s + c * l) (b - c) e' s' l' r') h
-  where
-    go : (t : Bool) → (placeFrom rest (e + 1) (s + c * l) (b - c) ≡ At e' s' l' r' → e + 1 ≤ e')
-        → cond t (At e (s + b * l) l (c - b)) (placeFrom rest (e + 1) (s + c * l) (b - c)) ≡ At e' s' l' r' → e ≤ e'
-    go true ih h = let q : e ≡ e' = cc in omega arith
-    go false ih h = let q = ih h in omega arith
-
 -- the search in an entry that holds the block, and in one that does not
 place-here : (c l : ℕ) (rest : List ℕ) (e s b : ℕ) → b < c → placeFrom (c ∷ l ∷ rest) e s b ≡ At e (s + b * l) l (c - b)
 unfolding placeFrom
@@ -36,151 +24,110 @@ place-past : (c l : ℕ) (rest : List ℕ) (e s b : ℕ) → c ≤ b → placeFr
 unfolding placeFrom
 place-past c l rest e s b h = rw (le-ltb b c h)
 
+-- a search finds block b at entry e': in its first entry, or over the entries after it
+data Found (e' s' l' r' : ℕ) : (m : List ℕ) (e s b : ℕ) → Type 0 where
+  here : (c l : ℕ) (rest : List ℕ) (e s b : ℕ) → b < c → e ≡ e' → s + b * l ≡ s' → l ≡ l' → c - b ≡ r' → Found e' s' l' r' (c ∷ l ∷ rest) e s b
+  later : (c l : ℕ) (rest : List ℕ) (e s b : ℕ) → c ≤ b → Found e' s' l' r' rest (e + 1) (s + c * l) (b - c) → Found e' s' l' r' (c ∷ l ∷ rest) e s b
+
+-- every place that a search answers was found so
+found : (m : List ℕ) (e s b e' s' l' r' : ℕ) → placeFrom m e s b ≡ At e' s' l' r' → Found e' s' l' r' m e s b
+unfolding placeFrom
+found [] e s b e' s' l' r' h = absurd (let z : _≡_ {A = ℕ} 0 1 = cc in omega arith)
+found (c ∷ []) e s b e' s' l' r' h = absurd (let z : _≡_ {A = ℕ} 0 1 = cc in omega arith)
+found (c ∷ l ∷ rest) e s b e' s' l' r' h = go (ltb b c) refl (found rest (e + 1) (s + c * l) (b - c) e' s' l' r') h
+  where
+    go : (t : Bool) → ltb b c ≡ t → (placeFrom rest (e + 1) (s + c * l) (b - c) ≡ At e' s' l' r' → Found e' s' l' r' rest (e + 1) (s + c * l) (b - c))
+        → cond t (At e (s + b * l) l (c - b)) (placeFrom rest (e + 1) (s + c * l) (b - c)) ≡ At e' s' l' r' → Found e' s' l' r' (c ∷ l ∷ rest) e s b
+    go true q ih h = here c l rest e s b (ltb-true _ _ q) (cc) (cc) (cc) (cc)
+    go false q ih h = later c l rest e s b (ltb-false _ _ q) (ih h)
+
+-- an entry's number is at least that of the entry at which the search starts
+entry-from : {e' s' l' r' : ℕ} {m : List ℕ} {e s b : ℕ} → Found e' s' l' r' m e s b → e ≤ e'
+entry-from (here c l rest e s b w a1 a2 a3 a4) = omega arith
+entry-from (later c l rest e s b w f) = let q = entry-from f in omega arith
+
 -- the blocks to the end of the entry lie one after the other, all of the same length
 pub run-places : (m : List ℕ) (e s b e' s' l' r' k : ℕ) → placeFrom m e s b ≡ At e' s' l' r' → k < r'
     → placeFrom m e s (b + k) ≡ At e' (s' + k * l') l' (r' - k)
-unfolding placeFrom
-run-places [] e s b e' s' l' r' k h p = absurd (let z : _≡_ {A = ℕ} 0 1 = cc in omega arith)
-run-places (c ∷ []) e s b e' s' l' r' k h p = absurd (let z : _≡_ {A = ℕ} 0 1 = cc in omega arith)
-run-places (c ∷ l ∷ rest) e s b e' s' l' r' k h p = go (ltb b c) refl (run-places rest (e + 1) (s + c * l) (b - c) e' s' l' r' k)
+run-places m e s b e' s' l' r' k h p = go (found m e s b e' s' l' r' h)
   where
-    go : (t : Bool) → ltb b c ≡ t
-        → (placeFrom rest (e + 1) (s + c * l) (b - c) ≡ At e' s' l' r' → k < r' → placeFrom rest (e + 1) (s + c * l) (b - c + k) ≡ At e' (s' + k * l') l' (r' - k))
-        → placeFrom (c ∷ l ∷ rest) e s (b + k) ≡ At e' (s' + k * l') l' (r' - k)
-    go true q ih =
-        let w : b < c = ltb-true _ _ q in
-        let a : At e (s + b * l) l (c - b) ≡ At e' s' l' r' = sym (place-here c l rest e s b w) ∙ h in
-        let a1 : e ≡ e' = cc in
-        let a2 : s + b * l ≡ s' = cc in
-        let a3 : l ≡ l' = cc in
-        let a4 : c - b ≡ r' = cc in
+    go : {m : List ℕ} {e s b : ℕ} → Found e' s' l' r' m e s b → placeFrom m e s (b + k) ≡ At e' (s' + k * l') l' (r' - k)
+    go (here c l rest e s b w a1 a2 a3 a4) =
         let z : s + (b + k) * l ≡ s' + k * l = rw (add-mul b k l) (omega arith) in
         let y : c - (b + k) ≡ r' - k = omega arith in
         place-here c l rest e s (b + k) (omega arith) ∙ rw (z, y, a1, a3)
-    go false q ih =
-        let w : c ≤ b = ltb-false _ _ q in
+    go (later c l rest e s b w f) =
         let z : b + k - c ≡ b - c + k = omega arith in
-        place-past c l rest e s (b + k) (omega arith) ∙ rw z (ih (sym (place-past c l rest e s b w) ∙ h) p)
+        place-past c l rest e s (b + k) (omega arith) ∙ rw z (go f)
 
 -- and the block after them, if there is one, is in a later entry
 pub run-ends : (m : List ℕ) (e s b e' s' l' r' e'' s'' l'' r'' : ℕ)
     → placeFrom m e s b ≡ At e' s' l' r' → placeFrom m e s (b + r') ≡ At e'' s'' l'' r'' → e' < e''
-unfolding placeFrom
-run-ends [] e s b e' s' l' r' e'' s'' l'' r'' h p = absurd (let z : _≡_ {A = ℕ} 0 1 = cc in omega arith)
-run-ends (c ∷ []) e s b e' s' l' r' e'' s'' l'' r'' h p = absurd (let z : _≡_ {A = ℕ} 0 1 = cc in omega arith)
-run-ends (c ∷ l ∷ rest) e s b e' s' l' r' e'' s'' l'' r'' h p =
-    go (ltb b c) refl (run-ends rest (e + 1) (s + c * l) (b - c) e' s' l' r' e'' s'' l'' r'')
+run-ends m e s b e' s' l' r' e'' s'' l'' r'' h = go (found m e s b e' s' l' r' h)
   where
-    go : (t : Bool) → ltb b c ≡ t
-        → (placeFrom rest (e + 1) (s + c * l) (b - c) ≡ At e' s' l' r' → placeFrom rest (e + 1) (s + c * l) (b - c + r') ≡ At e'' s'' l'' r'' → e' < e'')
-        → e' < e''
-    go true q ih =
-        let w : b < c = ltb-true _ _ q in
-        let a : At e (s + b * l) l (c - b) ≡ At e' s' l' r' = sym (place-here c l rest e s b w) ∙ h in
-        let a1 : e ≡ e' = cc in
-        let a4 : c - b ≡ r' = cc in
-        let f = entry-from rest (e + 1) (s + c * l) (b + r' - c) e'' s'' l'' r'' (sym (place-past c l rest e s (b + r') (omega arith)) ∙ p) in
+    go : {m : List ℕ} {e s b : ℕ} → Found e' s' l' r' m e s b → placeFrom m e s (b + r') ≡ At e'' s'' l'' r'' → e' < e''
+    go (here c l rest e s b w a1 a2 a3 a4) p =
+        let f = entry-from (found rest (e + 1) (s + c * l) (b + r' - c) e'' s'' l'' r'' (sym (place-past c l rest e s (b + r') (omega arith)) ∙ p)) in
         omega arith
-    go false q ih =
-        let w : c ≤ b = ltb-false _ _ q in
+    go (later c l rest e s b w f) p =
         let z : b + r' - c ≡ b - c + r' = omega arith in
-        ih (sym (place-past c l rest e s b w) ∙ h) (rw z at (sym (place-past c l rest e s (b + r') (omega arith)) ∙ p))
+        go f (rw z at (sym (place-past c l rest e s (b + r') (omega arith)) ∙ p))
 
 -- from a block that was found, the first byte of the block n blocks on, by the rest of its entry and the entries after it
 pub walk-end : (m : List ℕ) (e s b e' s' l' r' n : ℕ) → placeFrom m e s b ≡ At e' s' l' r'
     → s + firstByte m (b + n) ≡ s' + firstByte (r' ∷ l' ∷ drop (2 * (e' + 1 - e)) m) n
-unfolding placeFrom
-walk-end [] e s b e' s' l' r' n h = absurd (let z : _≡_ {A = ℕ} 0 1 = cc in omega arith)
-walk-end (c ∷ []) e s b e' s' l' r' n h = absurd (let z : _≡_ {A = ℕ} 0 1 = cc in omega arith)
-walk-end (c ∷ l ∷ rest) e s b e' s' l' r' n h =
-    go (ltb b c) refl (ltb n (c - b)) refl (walk-end rest (e + 1) (s + c * l) (b - c) e' s' l' r' n)
+walk-end m e s b e' s' l' r' n h = go (found m e s b e' s' l' r' h) (ltb n r') refl
   where
-    go : (t : Bool) → ltb b c ≡ t → (u : Bool) → ltb n (c - b) ≡ u
-        → (placeFrom rest (e + 1) (s + c * l) (b - c) ≡ At e' s' l' r'
-        → s + c * l + firstByte rest (b - c + n) ≡ s' + firstByte (r' ∷ l' ∷ drop (2 * (e' + 1 - (e + 1))) rest) n)
-        → s + firstByte (c ∷ l ∷ rest) (b + n) ≡ s' + firstByte (r' ∷ l' ∷ drop (2 * (e' + 1 - e)) (c ∷ l ∷ rest)) n
-    go true q true k ih =
-        let w : b < c = ltb-true _ _ q in
-        let w2 : n < c - b = ltb-true _ _ k in
-        let a : At e (s + b * l) l (c - b) ≡ At e' s' l' r' = sym (place-here c l rest e s b w) ∙ h in
-        let a2 : s + b * l ≡ s' = cc in
-        let a3 : l ≡ l' = cc in
-        let a4 : c - b ≡ r' = cc in
+    go : {m : List ℕ} {e s b : ℕ} → Found e' s' l' r' m e s b → (u : Bool) → ltb n r' ≡ u
+        → s + firstByte m (b + n) ≡ s' + firstByte (r' ∷ l' ∷ drop (2 * (e' + 1 - e)) m) n
+    go (here c l rest e s b w a1 a2 a3 a4) true k =
+        let v : n < r' = ltb-true _ _ k in
         let x : n * l ≡ n * l' = ap (λ (j : ℕ). n * j) a3 in
         rw (firstByte-here c l rest (b + n) (omega arith), firstByte-here r' l' (drop (2 * (e' + 1 - e)) (c ∷ l ∷ rest)) n (omega arith), add-mul b n l)
         (omega arith)
-    go true q false k ih =
-        let w : b < c = ltb-true _ _ q in
-        let w2 : c - b ≤ n = ltb-false _ _ k in
-        let a : At e (s + b * l) l (c - b) ≡ At e' s' l' r' = sym (place-here c l rest e s b w) ∙ h in
-        let a1 : e ≡ e' = cc in
-        let a2 : s + b * l ≡ s' = cc in
-        let a3 : l ≡ l' = cc in
-        let a4 : c - b ≡ r' = cc in
+    go (here c l rest e s b w a1 a2 a3 a4) false k =
+        let v : r' ≤ n = ltb-false _ _ k in
         let z : 2 * (e' + 1 - e) ≡ 2 = omega arith in
         let y : b + n - c ≡ n - r' = omega arith in
         let x : c * l ≡ b * l + r' * l' = (let d : c ≡ b + r' = omega arith in rw (d, ← a3) (add-mul b r' l)) in
         rw (z, firstByte-past c l rest (b + n) (omega arith), firstByte-past r' l' rest n (omega arith), y) (omega arith)
-    go false q u k ih =
-        let w : c ≤ b = ltb-false _ _ q in
-        let g : placeFrom rest (e + 1) (s + c * l) (b - c) ≡ At e' s' l' r' = sym (place-past c l rest e s b w) ∙ h in
-        let o = entry-from rest (e + 1) (s + c * l) (b - c) e' s' l' r' g in
+    go (later c l rest e s b w f) u k =
+        let o = entry-from f in
         let z : 2 * (e' + 1 - e) ≡ suc (suc (2 * (e' + 1 - (e + 1)))) = omega arith in
         let y : b + n - c ≡ b - c + n = omega arith in
-        let f = ih g in
+        let g = go f u k in
         rw (z, firstByte-past c l rest (b + n) (omega arith), y) (omega arith)
 
 -- the number of blocks, by those before a block that was found, the rest of its entry and the entries after it
 pub walk-blocks : (m : List ℕ) (e s b e' s' l' r' : ℕ) → placeFrom m e s b ≡ At e' s' l' r'
     → blocks m ≡ b + (r' + blocks (drop (2 * (e' + 1 - e)) m))
-unfolding placeFrom blocks
-walk-blocks [] e s b e' s' l' r' h = absurd (let z : _≡_ {A = ℕ} 0 1 = cc in omega arith)
-walk-blocks (c ∷ []) e s b e' s' l' r' h = absurd (let z : _≡_ {A = ℕ} 0 1 = cc in omega arith)
-walk-blocks (c ∷ l ∷ rest) e s b e' s' l' r' h = go (ltb b c) refl (walk-blocks rest (e + 1) (s + c * l) (b - c) e' s' l' r')
+unfolding blocks
+walk-blocks m e s b e' s' l' r' h = go (found m e s b e' s' l' r' h)
   where
-    go : (t : Bool) → ltb b c ≡ t
-        → (placeFrom rest (e + 1) (s + c * l) (b - c) ≡ At e' s' l' r' → blocks rest ≡ b - c + (r' + blocks (drop (2 * (e' + 1 - (e + 1))) rest)))
-        → c + blocks rest ≡ b + (r' + blocks (drop (2 * (e' + 1 - e)) (c ∷ l ∷ rest)))
-    go true q ih =
-        let w : b < c = ltb-true _ _ q in
-        let a : At e (s + b * l) l (c - b) ≡ At e' s' l' r' = sym (place-here c l rest e s b w) ∙ h in
-        let a1 : e ≡ e' = cc in
-        let a4 : c - b ≡ r' = cc in
+    go : {m : List ℕ} {e s b : ℕ} → Found e' s' l' r' m e s b → blocks m ≡ b + (r' + blocks (drop (2 * (e' + 1 - e)) m))
+    go (here c l rest e s b w a1 a2 a3 a4) =
         let z : 2 * (e' + 1 - e) ≡ 2 = omega arith in
         rw z (omega arith)
-    go false q ih =
-        let w : c ≤ b = ltb-false _ _ q in
-        let g : placeFrom rest (e + 1) (s + c * l) (b - c) ≡ At e' s' l' r' = sym (place-past c l rest e s b w) ∙ h in
-        let o = entry-from rest (e + 1) (s + c * l) (b - c) e' s' l' r' g in
+    go (later c l rest e s b w f) =
+        let o = entry-from f in
         let z : 2 * (e' + 1 - e) ≡ suc (suc (2 * (e' + 1 - (e + 1)))) = omega arith in
-        let f = ih g in
+        let g = go f in
         rw z (omega arith)
 
 -- the entry of a block that was found is one of the map's, and its length word is the block's length
 pub walk-entry : (m : List ℕ) (e s b e' s' l' r' : ℕ) → placeFrom m e s b ≡ At e' s' l' r'
     → (2 * (e' - e) + 1 < length m) × (getD m (2 * (e' - e) + 1) 0 ≡ l')
-unfolding placeFrom
-walk-entry [] e s b e' s' l' r' h = absurd (let z : _≡_ {A = ℕ} 0 1 = cc in omega arith)
-walk-entry (c ∷ []) e s b e' s' l' r' h = absurd (let z : _≡_ {A = ℕ} 0 1 = cc in omega arith)
-walk-entry (c ∷ l ∷ rest) e s b e' s' l' r' h = go (ltb b c) refl (walk-entry rest (e + 1) (s + c * l) (b - c) e' s' l' r')
+walk-entry m e s b e' s' l' r' h = go (found m e s b e' s' l' r' h)
   where
-    go : (t : Bool) → ltb b c ≡ t
-        → (placeFrom rest (e + 1) (s + c * l) (b - c) ≡ At e' s' l' r' → (2 * (e' - (e + 1)) + 1 < length rest) × (getD rest (2 * (e' - (e + 1)) + 1) 0 ≡ l'))
-        → (2 * (e' - e) + 1 < length (c ∷ l ∷ rest)) × (getD (c ∷ l ∷ rest) (2 * (e' - e) + 1) 0 ≡ l')
-    go true q ih =
-        let w : b < c = ltb-true _ _ q in
-        let a : At e (s + b * l) l (c - b) ≡ At e' s' l' r' = sym (place-here c l rest e s b w) ∙ h in
-        let a1 : e ≡ e' = cc in
-        let a3 : l ≡ l' = cc in
+    go : {m : List ℕ} {e s b : ℕ} → Found e' s' l' r' m e s b → (2 * (e' - e) + 1 < length m) × (getD m (2 * (e' - e) + 1) 0 ≡ l')
+    go (here c l rest e s b w a1 a2 a3 a4) =
         let z : 2 * (e' - e) + 1 ≡ 1 = omega arith in
         rw z (omega arith, a3)
-    go false q ih =
-        let w : c ≤ b = ltb-false _ _ q in
-        let g : placeFrom rest (e + 1) (s + c * l) (b - c) ≡ At e' s' l' r' = sym (place-past c l rest e s b w) ∙ h in
-        let o = entry-from rest (e + 1) (s + c * l) (b - c) e' s' l' r' g in
+    go (later c l rest e s b w f) =
+        let o = entry-from f in
         let z : 2 * (e' - e) + 1 ≡ suc (suc (2 * (e' - (e + 1)) + 1)) = omega arith in
-        let f = ih g in
-        rw z (omega arith, f .1)
+        let g = go f in
+        rw z (omega arith, g .1)
 
 -- a search over a map's words, at entry i: its words are c and l
 module _ (w : List ℕ) (i : ℕ) where
