@@ -1,7 +1,7 @@
 -- `volume::blocks::run_end` meets its contract.
-use Prim.Native.Nat.{_+_, _-_, _*_, _≤_, _<_}
+use Prim.Native.Nat.{ℕ, _+_, _-_, _*_, _≤_, _<_}
 use mathlib.Core.Path.{_≡_, refl, _∙_}
-use mathlib.Core.List.{_∷_}
+use mathlib.Core.List.{List, _∷_}
 use native.Mathlib.Omega.{arith}
 use borrow.Author.Needs.{needs}
 use denote.Ref.{now}
@@ -12,12 +12,15 @@ use Rattle.volume.proofs.BlockRuns.{entry-blocks, walk-stop, walk-on, w
 use Rattle.volume.proofs.blocks.run_end.Statement.{statement}
 use Rattle.volume.proofs.blocks.run_end.Tie as tie
 
+-- where n blocks end, of which the first starts at byte `at`, with r blocks left in its entry i
+abbrev ends : (w : List ℕ) (i at r n : ℕ) → ℕ
+ends w i at r n = at + firstByte (r ∷ getD w (2 * i + 1) 0 ∷ drop (2 * (i + 1)) w) n
+
 abbrev Inv-loop : tie.InvT-loop
 Inv-loop words entry start left count i₀ at₀ here₀ rest₀ i at here rest =
     (2 * i + 1 < length words) × (rest ≤ here + blocks (drop (2 * (i + 1)) words))
-    × (at + firstByte (here ∷ getD words (2 * i + 1) 0 ∷ drop (2 * (i + 1)) words) rest
-    ≡ start + firstByte (left ∷ getD words (2 * entry + 1) 0 ∷ drop (2 * (entry + 1)) words) count)
-    × (start + firstByte (left ∷ getD words (2 * entry + 1) 0 ∷ drop (2 * (entry + 1)) words) count ≤ 16777216)
+    × (ends words i at here rest ≡ ends words entry start left count)
+    × (ends words entry start left count ≤ 16777216)
 
 abbrev μ-loop : tie.MeasureT-loop
 μ-loop words entry start left count i₀ at₀ here₀ rest₀ i at here rest = length words - i
@@ -40,29 +43,35 @@ shared-slice-read-wide c = search needs
 wide-requires : tie.Need-wide-requires Inv-loop μ-loop
 wide-requires c κs = search needs
 
-mul-result : tie.Need-mul-result Inv-loop μ-loop
-mul-result c =
+-- the entry has blocks enough: the run ends in it
+stops : (c : tie.Then1 Inv-loop μ-loop)
+    → c .before .before .before .loop .at + c .before .before .before .loop .rest * c .before .wide .result
+    ≡ ends (now (c .before .before .before .before .before .args .words)) (c .before .before .before .loop .i) (c .before .before .before .loop .at)
+    (c .before .before .before .loop .here) (c .before .before .before .loop .rest)
+stops c =
     let l = c .before .before .before .loop in
     let w = now (c .before .before .before .before .before .args .words) in
-    omega (arith, walk-stop (l .here) (c .before .wide .result) (getD w (2 * l .i + 1) 0) (drop (2 * (l .i + 1)) w) (l .rest) (l .at) (c .before .wide .ensures .0) (c .if1 .taken))
+    walk-stop (l .here) (c .before .wide .result) (getD w (2 * l .i + 1) 0) (drop (2 * (l .i + 1)) w) (l .rest) (l .at) (c .before .wide .ensures .0) (c .if1 .taken)
+
+-- it has not: the next entry starts within the limit, as the run ends within it
+goes-on : (c : tie.Else1 Inv-loop μ-loop)
+    → c .before .before .before .loop .at + c .before .before .before .loop .here * c .before .wide .result ≤ 16777216
+goes-on c =
+    let l = c .before .before .before .loop in
+    let w = now (c .before .before .before .before .before .args .words) in
+    omega (arith, walk-on (l .here) (c .before .wide .result) (getD w (2 * l .i + 1) 0) (drop (2 * (l .i + 1)) w) (l .rest) (l .at) (c .before .wide .ensures .0) (c .if1 .left))
+
+mul-result : tie.Need-mul-result Inv-loop μ-loop
+mul-result c = omega (arith, stops c)
 
 add-result : tie.Need-add-result Inv-loop μ-loop
-add-result c =
-    let l = c .before .before .before .loop in
-    let w = now (c .before .before .before .before .before .args .words) in
-    omega (arith, walk-stop (l .here) (c .before .wide .result) (getD w (2 * l .i + 1) 0) (drop (2 * (l .i + 1)) w) (l .rest) (l .at) (c .before .wide .ensures .0) (c .if1 .taken))
+add-result c = omega (arith, stops c)
 
 mul-at : tie.Need-mul-at Inv-loop μ-loop
-mul-at c =
-    let l = c .before .before .before .loop in
-    let w = now (c .before .before .before .before .before .args .words) in
-    omega (arith, walk-on (l .here) (c .before .wide .result) (getD w (2 * l .i + 1) 0) (drop (2 * (l .i + 1)) w) (l .rest) (l .at) (c .before .wide .ensures .0) (c .if1 .left))
+mul-at c = omega (arith, goes-on c)
 
 add-at : tie.Need-add-at Inv-loop μ-loop
-add-at c =
-    let l = c .before .before .before .loop in
-    let w = now (c .before .before .before .before .before .args .words) in
-    omega (arith, walk-on (l .here) (c .before .wide .result) (getD w (2 * l .i + 1) 0) (drop (2 * (l .i + 1)) w) (l .rest) (l .at) (c .before .wide .ensures .0) (c .if1 .left))
+add-at c = omega (arith, goes-on c)
 
 sub-rest : tie.Need-sub-rest Inv-loop μ-loop
 sub-rest c = search needs
@@ -101,10 +110,7 @@ loop-again c =
     )
 
 returns : tie.Need-returns Inv-loop μ-loop
-returns c =
-    let l = c .before .before .before .loop in
-    let w = now (c .before .before .before .before .before .args .words) in
-    walk-stop (l .here) (c .before .wide .result) (getD w (2 * l .i + 1) 0) (drop (2 * (l .i + 1)) w) (l .rest) (l .at) (c .before .wide .ensures .0) (c .if1 .taken) ∙ l .inv .2
+returns c = stops c ∙ c .before .before .before .loop .inv .2
 
 pub run-end-spec : {M : Type 1} → statement M
 run-end-spec =
