@@ -96,8 +96,8 @@ def answer_fields(no, *values):
 
 # The cases.
 
-def opening(name, own, lent, base=0, pattern=ERASED):
-    data = prepared(own, pattern, WORKING)[:lent]
+def opening(name, own, lent, base=0, pattern=ERASED, working=WORKING):
+    data = prepared(own, pattern, working)[:lent]
     no, state = volume.open_volume(data, base)
     script = items(name.encode(), number(0), number(lent), number(base), own, pattern_item(pattern))
     return Case(name, script, [line(name, "open", no, *state_fields(state))], [no])

@@ -1,14 +1,25 @@
-"""Section streams at their limits: 16,777,216 bytes of a stream, 16,777,215 of a section, and 206.
+"""At the limits: 16,777,216 bytes of a volume or a stream, 16,777,215 of a section.
 
-The lines are those of streams.py. Bodies of one byte value with a mark at each end.
+The lines are those of headers.py and streams.py. Bodies of one byte value with a mark at each end.
 """
 
+from cases.headers import header
 from cases.streams import BODY, COMPRESSION, FREE_FORM, RAW, VERSION, compression, section
-from trial import ERASED, appending, searching
+from trial import ERASED, appending, opening, searching
 
-LIMIT = 16777216        # bytes of a stream
+LIMIT = 16777216        # bytes of a volume, and of a stream
 LARGEST = LIMIT - 1     # bytes of a section
-ROOM = LIMIT + 8        # bytes of the section buffer
+ROOM = LIMIT + 8        # bytes of the section buffer, and of the lent volume at most
+
+
+def open_cases():
+    for map_words, name in (([1, LIMIT], "one block"), ([4096, 4096], "4,096 blocks"), ([65536, 256], "65,536 blocks"), ([65535, 256, 1, 256], "65,536 blocks in two entries")):
+        yield opening("16,777,216 bytes, %s, open" % name, header(map_words), LIMIT, working=ROOM)
+    yield opening("16,777,216 bytes and more lent, open", header([1, LIMIT]), ROOM, working=ROOM)
+    yield opening("16,777,216 bytes, one less lent: 109", header([1, LIMIT]), LIMIT - 1, working=ROOM)
+    yield opening("16,777,217 bytes: 107", header([1, LIMIT + 1]), ROOM, working=ROOM)
+    yield opening("16,777,217 bytes in two blocks: 107", header([1, LIMIT, 1, 1]), ROOM, working=ROOM)
+    yield opening("65,537 blocks, all there: 107", header([65537, 255]), ROOM, working=ROOM)
 
 
 def body(size):
@@ -65,6 +76,8 @@ def append_cases():
 
 
 def cases():
+    for case in open_cases():
+        yield "open", case
     for case in search_cases():
         yield "search", case
     for case in append_cases():

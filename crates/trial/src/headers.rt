@@ -22,12 +22,23 @@ use volume::header_writer::Written;
 use volume::header_writer::write_header;
 use volume::state::State;
 
+// The most bytes of a volume that is opened.
+const VOLUME: usize = 4096;
+
 // Opening: the lent length, the base, the header's bytes, the pattern behind them.
 pub(crate) fn open_case(case: &[u8]) {
-    let mut volume = [0u8; 4096];
-    prepare(item(case, 4), item(case, 5), &mut volume);
+    let mut volume = [0u8; VOLUME];
+    open_array(case, &mut volume);
+}
+
+fn open_array(case: &[u8], volume: &mut [u8; VOLUME]) {
+    open_slice(case, volume);
+}
+
+fn open_slice(case: &[u8], volume: &mut [u8]) {
+    prepare(item(case, 4), item(case, 5), volume);
     begin(case, b"open");
-    opened_fields(open_volume(prefix(&volume, number(case, 2) as usize), number(case, 3)));
+    opened_fields(open_volume(prefix(volume, number(case, 2) as usize), number(case, 3)));
     end();
 }
 

@@ -17,7 +17,8 @@ use crate::script::prefix;
 use crate::streams::append_case;
 use crate::streams::search_case;
 
-// The most bytes of a script. tests/limits builds a program with more, and a longer ROOM in streams.rt.
+// The most bytes of a script. tests/limits builds a program with more, and with a longer VOLUME and ROOM in headers.rt and
+// streams.rt.
 const SCRIPT: usize = 262144;
 
 fn main() {
