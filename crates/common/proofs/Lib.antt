@@ -1,2 +1,3 @@
-pub mod Refusals
+pub mod Edit
 pub mod Lists
+pub mod Refusals

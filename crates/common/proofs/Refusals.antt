@@ -3,8 +3,8 @@ use Prim.Native.Nat.{ℕ}
 use mathlib.Core.Path.{_≡_, refl}
 use mathlib.Core.Bool.{Bool, true, false, cond, true≢false}
 use mathlib.Core.List.{List, [], _∷_, _++_}
-use mathlib.Core.Option.{none, some, Option·some-ne-none, Option·none-ne-some}
-use Rattle.common.specs.Refusals.{Row, firstRefusal, any}
+use mathlib.Core.Option.{Option, none, some, Option·some-ne-none, Option·none-ne-some}
+use Rattle.common.specs.Refusals.{Row, row, firstRefusal, any}
 
 -- a table whose rows all pass: its first row's test is false, and the others pass
 pub row-passed : (r : Row) (rest : List Row) → firstRefusal (r ∷ rest) ≡ none → (r .test ≡ false) × (firstRefusal rest ≡ none)
@@ -41,3 +41,16 @@ pub any-passed : (t : Bool) (rest : List Bool) → any (t ∷ rest) ≡ false �
 unfolding any
 any-passed true rest e = absurd (true≢false e)
 any-passed false rest e = (refl, e)
+
+-- a table's first row applies, or the table is that of the rows after it
+pub row-applies : (t : Bool) (n : ℕ) (rest : List Row) → t ≡ true → firstRefusal (row t n ∷ rest) ≡ some n
+unfolding firstRefusal
+row-applies t n rest e = rw e
+
+pub row-passes : (t : Bool) (n : ℕ) (rest : List Row) (o : Option ℕ) → t ≡ false → firstRefusal rest ≡ o → firstRefusal (row t n ∷ rest) ≡ o
+unfolding firstRefusal
+row-passes t n rest o e q = rw e q
+
+pub no-row : firstRefusal [] ≡ none
+unfolding firstRefusal
+no-row = refl

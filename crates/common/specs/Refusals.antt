@@ -18,10 +18,10 @@ unfoldable pub firstRefusal : List Row → Option ℕ
 firstRefusal [] = none
 firstRefusal (r ∷ rest) = let later = firstRefusal rest in cond (r .test) (some (r .number)) later
 
--- the number of a refusal, 0 where there is none
-unfoldable pub refusalNumber : Option ℕ → ℕ
-refusalNumber none = 0
-refusalNumber (some n) = n
+-- the refusal where there is one, made of its number, and otherwise what is done
+abbrev pub unlessRefused : {A : Type 0} → (ℕ → A) → Option ℕ → A → A
+unlessRefused refuse none done = done
+unlessRefused refuse (some n) done = refuse n
 
 -- some test of a list holds
 unfoldable pub any : List Bool → Bool
