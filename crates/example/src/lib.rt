@@ -7,7 +7,7 @@ ghost use mathlib.Core.List.{[]};
 ghost use mathlib.Core.Path.{_≡_};
 ghost use Rattle.example.specs.Mask.{putMask};
 ghost use Rattle.volume.specs.Header.{openVolume};
-ghost use Rattle.volume.specs.Service.{movedAnswer, result};
+ghost use Rattle.block_service.specs.Service.{movedAnswer, result};
 use volume::erase::END_OF_LIST;
 use volume::header::open_volume;
 use volume::service::Moved;

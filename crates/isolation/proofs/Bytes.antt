@@ -11,10 +11,10 @@ use borrow.Author.Tests.{lt-ltb, le-leb, ltb-true, ltb-false}
 use lib.Dec.{T, leb, ltb}
 use lib.ListN.{length, getD, take, drop, List·getD-eq-default, length-take, length-drop}
 use lib.Seq.{ext-getD, getD-take, getD-drop}
-use Rattle.volume.specs.Service.{Answer, Call, ByteChange, keep, store, erase, Effect, reply, setTo, copyOut, change, decide, Result, edit, changedByte, perform, bufferOf, step}
+use Rattle.block_service.specs.Service.{Answer, Call, ByteChange, keep, store, erase, Effect, reply, setTo, copyOut, change, decide, Result, edit, changedByte, perform, bufferOf, step}
 use Rattle.volume.specs.declared.state.State.{State}
 use Rattle.isolation.specs.Runs.{run, Seen, seen}
-use Rattle.volume.proofs.Edit.{length-edit, getD-edit}
+use Rattle.common.proofs.Edit.{length-edit, getD-edit}
 
 -- an effect erases byte i; an effect copies byte i to the reader
 unfoldable pub isErase : ByteChange → Bool

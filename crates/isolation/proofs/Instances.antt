@@ -11,14 +11,14 @@ use lib.ListN.{length, getD, set, length-set}
 use lib.Seq.{getD-set-other}
 use Rattle.common.specs.Refusals.{firstRefusal, any}
 use Rattle.numbers.specs.LittleEndian.{le}
-use Rattle.volume.specs.Access.{countMoved, writtenByte}
+use Rattle.block_service.specs.Access.{countMoved, writtenByte}
 use Rattle.volume.specs.Attributes.{attributesFault, baseFault}
 use Rattle.volume.specs.BlockMap.{blocks, bytes, hasZero, allZero, sizeFault}
-use Rattle.volume.specs.Blocks.{inBlock, holds, place, placeFrom, startOf, lengthOf, leftOf, blockAt}
-use Rattle.volume.specs.Erase.{goodList, names, erasedByte}
+use Rattle.block_service.specs.Blocks.{inBlock, holds, place, placeFrom, startOf, lengthOf, leftOf, blockAt}
+use Rattle.block_service.specs.Erase.{goodList, names, erasedByte}
 use Rattle.volume.specs.Header.{openVolume, answered, stateBeside, stateAt, wordsAt, wordSum, openRefusals, headerLengthFault, mapFault}
-use Rattle.volume.specs.Service.{refusals, moveAnswer, writeChange, eraseChange, effect, unless, decide, withAttributes, edit, changedByte, perform, bufferOf, refused, success, Call, setAttributes, read, eraseBlocks, step}
-use Rattle.volume.specs.Settings.{changesFixed, raises, clears, lacksCapability, settingRefusals}
+use Rattle.block_service.specs.Service.{refusals, moveAnswer, writeChange, eraseChange, effect, unless, decide, withAttributes, edit, changedByte, perform, bufferOf, refused, success, Call, setAttributes, read, eraseBlocks, step}
+use Rattle.block_service.specs.Settings.{changesFixed, raises, clears, lacksCapability, settingRefusals}
 use Rattle.volume.specs.State.{mapOf, stateOf, stateWith, unlawful}
 use Rattle.volume.specs.declared.state.State.{State}
 use Rattle.isolation.specs.Runs.{run, isSuccess, isMoved, namesBlock, erased, Alike, NoEarlyRead, Isolated}

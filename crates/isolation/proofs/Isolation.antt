@@ -9,24 +9,24 @@ use borrow.Author.Tests.{leb-true, ltb-true, leb-false}
 use lib.Dec.{T, leb, ltb, eqb}
 use lib.ListN.{length}
 use Rattle.common.specs.Refusals.{firstRefusal}
-use Rattle.volume.specs.Access.{countMoved}
+use Rattle.block_service.specs.Access.{countMoved}
 use Rattle.volume.specs.BlockMap.{blocks}
-use Rattle.volume.specs.Blocks.{place, inBlock, startOf, lengthOf}
-use Rattle.volume.specs.Erase.{names}
+use Rattle.block_service.specs.Blocks.{place, inBlock, startOf, lengthOf}
+use Rattle.block_service.specs.Erase.{names}
 use Rattle.volume.specs.Header.{openVolume}
-use Rattle.volume.specs.Service.{Answer, refused, success, short, Call, getAttributes, setAttributes, getPhysicalAddress, getBlockSize, read, write, eraseBlocks, keep, erase, Effect, refusals, effect, unless, decide, moveAnswer, eraseChange, Result, perform, step}
+use Rattle.block_service.specs.Service.{Answer, refused, success, short, Call, getAttributes, setAttributes, getPhysicalAddress, getBlockSize, read, write, eraseBlocks, keep, erase, Effect, refusals, effect, unless, decide, moveAnswer, eraseChange, Result, perform, step}
 use Rattle.volume.specs.State.{mapOf, unlawful}
-use Rattle.volume.specs.declared.blocks.Place.{Place}
-use Rattle.volume.specs.declared.blocks.Place.the-variants.{At, Missing}
+use Rattle.block_service.specs.declared.blocks.Place.{Place}
+use Rattle.block_service.specs.declared.blocks.Place.the-variants.{At, Missing}
 use Rattle.volume.specs.declared.state.State.{State}
 use Rattle.isolation.specs.Runs.{run, seen, isSuccess, isMoved, namesBlock, erased, Alike, NoEarlyRead, NeverErased, Isolated}
 use Rattle.volume.specs.declared.header.Opened.{Opened}
 use Rattle.volume.specs.declared.header.Opening.the-variants as Opening
-use Rattle.volume.proofs.Places.{inBlock-blockAt, inBlock-of-bounds, in-one-block, found-start, found-end, place-lost}
-use Rattle.volume.proofs.StepLaws.{passed-success, passed-read}
-use Rattle.volume.proofs.ServiceLaws.{map-kept, lawful-kept}
-use Rattle.volume.proofs.Opening.{opened-lawful}
-use Rattle.volume.proofs.Steps.{allowed-step}
+use Rattle.block_service.proofs.blocks.Places.{inBlock-blockAt, inBlock-of-bounds, in-one-block, found-start, found-end, place-lost}
+use Rattle.block_service.proofs.service.Effects.{passed-success, passed-read}
+use Rattle.block_service.proofs.service.Kept.{map-kept, lawful-kept}
+use Rattle.volume.proofs.header.Reading.{opened-lawful}
+use Rattle.block_service.proofs.service.Steps.{allowed-step}
 use Rattle.isolation.proofs.Bytes.{erasesByte, isErase, copiesByte, erasedInRun, Without, Unread, same-runs, call-answer, call-state}
 
 -- ---- Booleans

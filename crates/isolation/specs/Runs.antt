@@ -6,9 +6,9 @@ use mathlib.Core.Bool.{Bool, true, false, not, _&&_, _||_}
 use mathlib.Core.List.{List, [], _∷_, _++_}
 use lib.Dec.{T}
 use lib.ListN.{length, getD}
-use Rattle.volume.specs.Blocks.{inBlock}
-use Rattle.volume.specs.Erase.{names}
-use Rattle.volume.specs.Service.{Answer, refused, success, short, Call, getAttributes, setAttributes, getPhysicalAddress, getBlockSize, read, write, eraseBlocks, step}
+use Rattle.block_service.specs.Blocks.{inBlock}
+use Rattle.block_service.specs.Erase.{names}
+use Rattle.block_service.specs.Service.{Answer, refused, success, short, Call, getAttributes, setAttributes, getPhysicalAddress, getBlockSize, read, write, eraseBlocks, step}
 use Rattle.volume.specs.State.{mapOf}
 use Rattle.volume.specs.declared.state.State.{State}
 

@@ -43,6 +43,13 @@ pub fn u64_at(s: &[u8], at: usize) -> u64
     number_at(s, at, 8)
 }
 
+// A 32-bit number as a 64-bit one. It stays below 2 ^ 32, so that a product of two such fits.
+pub fn wide(x: u32) -> u64
+    ensures { λ r. ⌜ (r ≡ x) × (r < 2 ^ 32) ⌝ }
+{
+    x as u64
+}
+
 // Stores the lowest `width` bytes of x, the lowest first, from a place on. Every other byte stays.
 pub fn store(s: &mut [u8], at: usize, width: usize, x: u64)
     ensures { λ _. ⌜ now (s .exit) ≡ sets (now (s .entry)) at (leBytes width x) ⌝ }

@@ -6,14 +6,14 @@ use mathlib.Core.List.{List, [], _∷_}
 use lib.ListN.{set, replicate}
 use Rattle.common.specs.Refusals.{firstRefusal, any}
 use Rattle.numbers.specs.LittleEndian.{le}
-use Rattle.volume.specs.Access.{countMoved, writtenByte}
+use Rattle.block_service.specs.Access.{countMoved, writtenByte}
 use Rattle.volume.specs.Attributes.{attributesFault, baseFault}
 use Rattle.volume.specs.BlockMap.{blocks, bytes, hasZero, allZero, sizeFault}
-use Rattle.volume.specs.Blocks.{place, placeFrom, startOf, lengthOf, leftOf, blockAt}
-use Rattle.volume.specs.Erase.{endOfList, goodList, names, erasedByte}
+use Rattle.block_service.specs.Blocks.{place, placeFrom, startOf, lengthOf, leftOf, blockAt}
+use Rattle.block_service.specs.Erase.{endOfList, goodList, names, erasedByte}
 use Rattle.volume.specs.Header.{openVolume, answered, stateBeside, stateAt, wordsAt, wordSum, openRefusals, headerLengthFault, mapFault}
-use Rattle.volume.specs.Service.{refusals, moveAnswer, writeChange, eraseChange, effect, unless, decide, withAttributes, edit, changedByte, perform, bufferOf, Result, numberOf, valuesOf, Call, setAttributes, read, write, eraseBlocks, step}
-use Rattle.volume.specs.Settings.{changesFixed, raises, clears, lacksCapability, settingRefusals}
+use Rattle.block_service.specs.Service.{refusals, moveAnswer, writeChange, eraseChange, effect, unless, decide, withAttributes, edit, changedByte, perform, bufferOf, Result, numberOf, valuesOf, Call, setAttributes, read, write, eraseBlocks, step}
+use Rattle.block_service.specs.Settings.{changesFixed, raises, clears, lacksCapability, settingRefusals}
 use Rattle.volume.specs.State.{mapOf, stateOf, stateWith, zeroState, unlawful}
 use Rattle.volume.specs.declared.header.Opening.the-variants as Opening
 use Rattle.sections.specs.Kinds.{kindOf}

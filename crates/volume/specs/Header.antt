@@ -6,7 +6,8 @@ use mathlib.Core.List.{List, [], _∷_}
 use mathlib.Core.Option.{Option, none, some}
 use lib.Dec.{eqb, ltb}
 use lib.ListN.{length, getD, take, drop}
-use Rattle.common.specs.Refusals.{Row, row, firstRefusal, any}
+use Rattle.common.specs.Answers.{Answer, refused, success}
+use Rattle.common.specs.Refusals.{Row, row, firstRefusal, unlessRefused, any}
 use Rattle.numbers.specs.LittleEndian.{le}
 use Rattle.volume.specs.Attributes.{attributesFault, baseFault}
 use Rattle.volume.specs.BlockMap.{headerLength, maxEntries, hasZero, sizeFault}
@@ -14,7 +15,6 @@ use Rattle.volume.specs.State.{stateOf, zeroState, mapOf}
 use Rattle.volume.specs.declared.state.State.{State}
 use Rattle.volume.specs.declared.header.Opening.{Opening}
 use Rattle.volume.specs.declared.header.Opening.the-variants as Opening
-use Rattle.volume.specs.declared.header.Opened.{Opened}
 
 -- ---- fields
 
@@ -48,9 +48,12 @@ revision = 1
 abbrev pub mapStart : ℕ
 mapStart = 56
 
--- the fewest bytes of a header: one map entry and the closing pair
+-- the fewest bytes of a header, one map entry and the closing pair, and the most
 abbrev pub minHeader : ℕ
 minHeader = headerLength 1
+
+abbrev pub maxHeader : ℕ
+maxHeader = headerLength maxEntries
 
 -- bytes 48..49: header length
 abbrev pub headerLengthAt : List ℕ → ℕ
@@ -64,6 +67,10 @@ entriesOf h = (h - 64) / 8
 unfoldable pub wordsAt : ℕ → List ℕ → ℕ → List ℕ
 wordsAt zero s at = []
 wordsAt (suc k) s at = le 4 s at ∷ wordsAt k s (at + 4)
+
+-- "the 16-bit words of the whole header sum to 0 modulo 65,536"
+abbrev pub wordModulus : ℕ
+wordModulus = 65536
 
 -- the true sum of the 16-bit words of a byte string
 unfoldable pub wordSum : List ℕ → ℕ
@@ -81,7 +88,7 @@ stateAt s base =
 
 -- 104: header length not a multiple of 8, below 72, above 320 or past the lent bytes
 unfoldable pub headerLengthFault : ℕ → ℕ → Bool
-headerLengthFault h lent = any (not (eqb (h % 8) 0) ∷ ltb h minHeader ∷ ltb (headerLength maxEntries) h ∷ ltb lent h ∷ [])
+headerLengthFault h lent = any (not (eqb (h % 8) 0) ∷ ltb h minHeader ∷ ltb maxHeader h ∷ ltb lent h ∷ [])
 
 -- 106: a map pair before the last has a zero count or zero length, or the last is not 0, 0
 unfoldable pub mapFault : List ℕ → State → Bool
@@ -94,7 +101,7 @@ openRefusals s st =
     ∷ row (not (eqb (signatureAt s) signature)) 102
     ∷ row (not (eqb (revisionAt s) revision)) 103
     ∷ row (headerLengthFault (headerLengthAt s) (length s)) 104
-    ∷ row (not (eqb (wordSum (take (headerLengthAt s) s) % 65536) 0)) 105
+    ∷ row (not (eqb (wordSum (take (headerLengthAt s) s) % wordModulus) 0)) 105
     ∷ row (mapFault s st) 106
     ∷ row (sizeFault (st .entries) (mapOf st) (st .length)) 107
     ∷ row (attributesFault (st .attributes)) 108
@@ -102,24 +109,30 @@ openRefusals s st =
     ∷ row (baseFault (st .attributes) (st .base)) 110
     ∷ []
 
--- the answer of opening: success where no row applies
-unfoldable pub answered : Option ℕ → Opening
-answered none = Opening.Success
-answered (some n) = Opening.Refused n
+-- what opening answers, and the state beside the answer
+pub record Opens : Type 0 where
+  pub answer : Answer
+  pub state : State
 
--- document 01's number of the answer, 0 for success
-unfoldable pub openingNumber : Opening → ℕ
-openingNumber Opening.Success = 0
-openingNumber (Opening.Refused n) = n
+abbrev pub opens : Answer → State → Opens
+opens answer st = record { answer = answer; state = st }
 
--- the state beside it: on a refusal the zero state
-unfoldable pub stateBeside : Option ℕ → State → State
-stateBeside none st = st
-stateBeside (some n) st = zeroState
+-- opening succeeds with a state; beside a refusal stands the zero state
+abbrev pub opened : State → Opens
+opened st = opens (success []) st
+
+-- the answer that each case of the code's enum stands for
+unfoldable pub openingAnswer : Opening → Answer
+openingAnswer Opening.Success = success []
+openingAnswer (Opening.Refused n) = refused n
 
 -- opening: the lent bytes and a base address
-unfoldable pub openVolume : List ℕ → ℕ → Opened
+unfoldable pub openVolume : List ℕ → ℕ → Opens
 openVolume s base =
     let st = stateAt s base in
-    let refusal = firstRefusal (openRefusals s st) in
-    record { answer = answered refusal; state = stateBeside refusal st }
+    unlessRefused (λ n. opens (refused n) zeroState) (firstRefusal (openRefusals s st)) (opened st)
+
+-- private to the code's contracts: the refusal that an answer is, where it is one
+unfoldable pub refusalOf : Opening → Option ℕ
+refusalOf Opening.Success = none
+refusalOf (Opening.Refused n) = some n

@@ -3,14 +3,14 @@
 use Prim.Native.Nat.{ℕ, _-_, _/_, _%_}
 use mathlib.Core.Bool.{Bool, not, _||_}
 use mathlib.Core.List.{List, [], _∷_, _++_}
-use mathlib.Core.Option.{Option, none, some}
 use lib.Dec.{eqb, ltb}
 use lib.ListN.{length, drop, replicate}
-use Rattle.common.specs.Refusals.{Row, row, firstRefusal}
+use Rattle.common.specs.Answers.{Answer, refused, success}
+use Rattle.common.specs.Refusals.{Row, row, firstRefusal, unlessRefused}
 use Rattle.numbers.specs.LittleEndian.{leBytes}
 use Rattle.volume.specs.Attributes.{attributesFault}
 use Rattle.volume.specs.BlockMap.{headerLength, hasZero, sizeFault}
-use Rattle.volume.specs.Header.{signature, revision, wordSum}
+use Rattle.volume.specs.Header.{signature, revision, wordModulus, wordSum}
 use Rattle.volume.specs.declared.header_writer.Written.{Written}
 use Rattle.volume.specs.declared.header_writer.Written.the-variants as Written
 
@@ -37,9 +37,9 @@ unfoldable pub headerWith : ℕ → List ℕ → ℕ → ℕ → List ℕ → Li
 headerWith check guid len attributes words =
     headerFront guid len attributes (pairs words) ++ (leBytes 2 check ++ (reservedAndRevision ++ (wordsBytes words ++ replicate 8 0)))
 
--- the checksum that brings a sum of 16-bit words to 0 modulo 65,536
+-- the checksum that brings a sum of 16-bit words to 0
 abbrev pub checksum : ℕ → ℕ
-checksum sum = (65536 - sum % 65536) % 65536
+checksum sum = (wordModulus - sum % wordModulus) % wordModulus
 
 -- the header, its checksum worked out over the header that has 0 in its place
 unfoldable pub headerBytes : List ℕ → ℕ → ℕ → List ℕ → List ℕ
@@ -60,20 +60,20 @@ writeRefusals len attributes words room =
 
 -- what writing answers, and the room afterwards
 pub record HeaderWritten : Type 0 where
-  pub answer : Written
+  pub answer : Answer
   pub room : List ℕ
 
--- document 01's number of the answer, 0 for success
-unfoldable pub writtenNumber : Written → ℕ
-writtenNumber (Written.Success k) = 0
-writtenNumber (Written.Refused n) = n
+abbrev pub wrote : Answer → List ℕ → HeaderWritten
+wrote answer room = record { answer = answer; room = room }
 
--- the header at the start of the room, or the number alone and the room as it was
-unfoldable pub writtenBy : Option ℕ → List ℕ → List ℕ → HeaderWritten
-writtenBy none header room = record { answer = Written.Success (length header); room = header ++ drop (length header) room }
-writtenBy (some n) header room = record { answer = Written.Refused n; room = room }
+-- the answer that each case of the code's enum stands for
+unfoldable pub writtenAnswer : Written → Answer
+writtenAnswer (Written.Success k) = success (k ∷ [])
+writtenAnswer (Written.Refused n) = refused n
 
--- writing a header at the start of a room
+-- writing a header at the start of a room: it answers its length and stores exactly the header; a refusal leaves the room as it was
 unfoldable pub writeHeader : List ℕ → ℕ → ℕ → List ℕ → List ℕ → HeaderWritten
 writeHeader guid len attributes words room =
-    writtenBy (firstRefusal (writeRefusals len attributes words (length room))) (headerBytes guid len attributes words) room
+    let header = headerBytes guid len attributes words in
+    unlessRefused (λ n. wrote (refused n) room) (firstRefusal (writeRefusals len attributes words (length room)))
+    (wrote (success (length header ∷ [])) (header ++ drop (length header) room))

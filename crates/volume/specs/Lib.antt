@@ -1,10 +1,5 @@
-pub mod Access
 pub mod Attributes
 pub mod BlockMap
-pub mod Blocks
-pub mod Erase
 pub mod Header
 pub mod HeaderWriter
-pub mod Service
-pub mod Settings
 pub mod State

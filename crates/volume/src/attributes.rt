@@ -1,6 +1,6 @@
 // Volume attributes: the bits by 000's names, and document 01's rules 108 and 110.
 ghost use mathlib.Core.Path.{_≡_};
-ghost use Rattle.volume.specs.Attributes.{attributesFault, baseFault};
+ghost use Rattle.volume.specs.Attributes.{attributesFault, baseFault, flag};
 
 pub const READ_DISABLED_CAP: u32 = 0x1;
 
@@ -26,34 +26,47 @@ pub const ERASE_POLARITY: u32 = 0x800;
 
 pub const ALIGNMENT_CAP: u32 = 0x8000;
 
+// The lowest of the alignments, 2; the others, to 64K, are the bits above it.
+const ALIGNMENT_2: u32 = 0x10000;
+
+// Whether the attribute of this value, a power of two, is set.
+pub fn is_set(attributes: u32, bit: u32) -> bool
+    ensures { λ r. ⌜ r ≡ flag attributes bit ⌝ }
+{
+    if bit == 0 {
+        return false;
+    }
+    attributes / bit % 2 == 1
+}
+
 // Whether attributes break rule 108: a bit that must be zero is set, or an alignment without
 // the alignment capability.
 pub(crate) fn attributes_fault(a: u32) -> bool
     ensures { λ r. ⌜ r ≡ attributesFault a ⌝ }
 {
-    if a / 0x100 % 2 == 1 {
+    if is_set(a, 0x100) {
         return true;
     }
-    if a / 0x1000 % 2 == 1 {
+    if is_set(a, 0x1000) {
         return true;
     }
-    if a / 0x2000 % 2 == 1 {
+    if is_set(a, 0x2000) {
         return true;
     }
-    if a / 0x4000 % 2 == 1 {
+    if is_set(a, 0x4000) {
         return true;
     }
-    if a / ALIGNMENT_CAP % 2 == 1 {
+    if is_set(a, ALIGNMENT_CAP) {
         return false;
     }
-    a / 0x10000 != 0
+    a / ALIGNMENT_2 != 0
 }
 
 // Whether attributes and base break rule 110: memory mapped, and the base no multiple of 8.
 pub(crate) fn base_fault(a: u32, base: u64) -> bool
     ensures { λ r. ⌜ r ≡ baseFault a base ⌝ }
 {
-    if a / MEMORY_MAPPED % 2 == 1 {
+    if is_set(a, MEMORY_MAPPED) {
         return base % 8 != 0;
     }
     false

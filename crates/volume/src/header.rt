@@ -1,16 +1,17 @@
 // The volume header: opening a volume.
 ghost use mathlib.Core.Path.{_≡_};
 ghost use mathlib.Core.List.{_++_};
-ghost use mathlib.Core.Option.{some};
 ghost use Prim.Native.Nat.{_-_, _*_, _≤_};
 ghost use lib.ListN.{length, take, drop, replicate};
+ghost use Rattle.common.specs.Answers.{refused};
 ghost use Rattle.common.specs.Refusals.{firstRefusal};
-ghost use Rattle.volume.specs.Header.{answered, headerLengthAt, headerLengthFault, openRefusals, openVolume, stateAt, wordSum, wordsAt};
+ghost use Rattle.volume.specs.Header.{headerLengthAt, headerLengthFault, mapStart, maxHeader, openRefusals, openVolume, openingAnswer, opens, refusalOf, stateAt, wordSum, wordsAt};
+ghost use Rattle.volume.specs.BlockMap.{maxEntries};
 ghost use Rattle.volume.specs.State.{zeroState};
 use crate::attributes::attributes_fault;
 use crate::attributes::base_fault;
 use crate::block_map::has_zero;
-use crate::block_map::size_fault;
+use crate::block_map::map_fault;
 use crate::state::State;
 use crate::state::state_with;
 
@@ -36,10 +37,13 @@ const REVISION: usize = 55;
 
 pub(crate) const BLOCK_MAP: usize = 56;
 
-// The header of one map entry, and that of 32.
+// The header of one map entry, and that of MAX_ENTRIES.
 const SHORTEST_HEADER: usize = 72;
 
 const LONGEST_HEADER: usize = 320;
+
+// A header's word sum counts modulo this.
+pub(crate) const WORD_MODULUS: u64 = 65536;
 
 // What opening answers: success, or the refusal's number in document 01 (101 to 110).
 pub enum Opening {
@@ -56,16 +60,16 @@ pub struct Opened {
 // Opens a volume: answers the state that its header and the base address give, or the first of 101 to
 // 110 that applies. Only the header is read.
 pub fn open_volume(volume: &[u8], base: u64) -> Opened
-    ensures { λ r. ⌜ r ≡ openVolume (now (volume .entry)) base ⌝ }
+    ensures { λ r. ⌜ opens (openingAnswer (r .answer)) (r .state) ≡ openVolume (now (volume .entry)) base ⌝ }
 {
     let early = bytes_refusal(volume);
     if let Opening::Refused(n) = early {
-        return refused(n);
+        return refuse(n);
     }
     let state = state_at(volume, base);
     let late = fields_refusal(volume, state);
     if let Opening::Refused(n) = late {
-        return refused(n);
+        return refuse(n);
     }
     Opened {
         answer: Opening::Success,
@@ -74,8 +78,8 @@ pub fn open_volume(volume: &[u8], base: u64) -> Opened
 }
 
 // A refusal of opening: the number, and the zero state.
-fn refused(n: u16) -> Opened
-    ensures { λ r. ⌜ r ≡ record { answer = answered (some n); state = zeroState } ⌝ }
+fn refuse(n: u16) -> Opened
+    ensures { λ r. ⌜ opens (openingAnswer (r .answer)) (r .state) ≡ opens (refused n) zeroState ⌝ }
 {
     Opened {
         answer: Opening::Refused(n),
@@ -85,7 +89,7 @@ fn refused(n: u16) -> Opened
 
 // The table's first five rows, 101 to 105, which need no state.
 fn bytes_refusal(s: &[u8]) -> Opening
-    ensures { λ r. ⌜ r ≡ answered (firstRefusal (take 5 (openRefusals (now (s .entry)) zeroState))) ⌝ }
+    ensures { λ r. ⌜ refusalOf r ≡ firstRefusal (take 5 (openRefusals (now (s .entry)) zeroState)) ⌝ }
 {
     if s.len() < SHORTEST_HEADER {
         return Opening::Refused(101);
@@ -100,7 +104,7 @@ fn bytes_refusal(s: &[u8]) -> Opening
     if header_length_fault(header, s.len()) {
         return Opening::Refused(104);
     }
-    if word_sum(&s[..header]) % 65536 != 0 {
+    if word_sum(&s[..header]) % WORD_MODULUS != 0 {
         return Opening::Refused(105);
     }
     Opening::Success
@@ -109,7 +113,7 @@ fn bytes_refusal(s: &[u8]) -> Opening
 // The table's other rows, 106 to 110, with what the state would be.
 fn fields_refusal(s: &[u8], st: State) -> Opening
     requires { ⌜ (2 * st .entries ≤ 64) × (8 ≤ headerLengthAt (now s)) ⌝ }
-    ensures { λ r. ⌜ r ≡ answered (firstRefusal (drop 5 (openRefusals (now (s .entry)) st))) ⌝ }
+    ensures { λ r. ⌜ refusalOf r ≡ firstRefusal (drop 5 (openRefusals (now (s .entry)) st)) ⌝ }
 {
     let n = st.entries;
     let map = st.map;
@@ -121,7 +125,7 @@ fn fields_refusal(s: &[u8], st: State) -> Opening
     if numbers::u64_at(s, closing) != 0 {
         return Opening::Refused(106);
     }
-    if size_fault(n, &map[..end], st.length) {
+    if map_fault(n, &map[..end], st.length) {
         return Opening::Refused(107);
     }
     if attributes_fault(st.attributes) {
@@ -154,7 +158,7 @@ fn header_length_fault(header: usize, lent: usize) -> bool
 
 // The sum of a header's 16-bit words.
 pub(crate) fn word_sum(s: &[u8]) -> u64
-    requires { ⌜ length (now s) ≤ 320 ⌝ }
+    requires { ⌜ length (now s) ≤ maxHeader ⌝ }
     ensures { λ r. ⌜ r ≡ wordSum (now (s .entry)) ⌝ }
 {
     let mut sum: u64 = 0;
@@ -168,7 +172,7 @@ pub(crate) fn word_sum(s: &[u8]) -> u64
 
 // The state that a header and a base give.
 fn state_at(s: &[u8], base: u64) -> State
-    requires { ⌜ (32 ≤ length (now s)) × (64 ≤ headerLengthAt (now s)) × (headerLengthAt (now s) ≤ 320) ⌝ }
+    requires { ⌜ (32 ≤ length (now s)) × (64 ≤ headerLengthAt (now s)) × (headerLengthAt (now s) ≤ maxHeader) ⌝ }
     ensures { λ r. ⌜ r ≡ stateAt (now (s .entry)) base ⌝ }
 {
     let entries = (numbers::u16_at(s, HEADER_LENGTH) as usize - 64) / 8;
@@ -200,8 +204,8 @@ fn guid_at(s: &[u8]) -> [u8; 16]
 
 // The words of n map entries, from byte 56 on, and zeros beyond them.
 fn map_at(s: &[u8], n: usize) -> [u32; 64]
-    requires { ⌜ n ≤ 32 ⌝ }
-    ensures { λ r. ⌜ r ≡ wordsAt (2 * n) (now (s .entry)) 56 ++ replicate (64 - 2 * n) 0 ⌝ }
+    requires { ⌜ n ≤ maxEntries ⌝ }
+    ensures { λ r. ⌜ r ≡ wordsAt (2 * n) (now (s .entry)) mapStart ++ replicate (64 - 2 * n) 0 ⌝ }
 {
     let mut map = [0u32; 64];
     let mut i = 0;

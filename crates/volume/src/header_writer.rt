@@ -4,12 +4,14 @@ ghost use mathlib.Core.List.{_++_};
 ghost use lib.ListN.{length, replicate};
 ghost use lib.Seq.{sets};
 ghost use Rattle.numbers.specs.LittleEndian.{leBytes};
-ghost use Prim.Native.Nat.{_≤_};
-ghost use Rattle.volume.specs.HeaderWriter.{headerFront, reservedAndRevision, wordsBytes, writeHeader};
+ghost use Prim.Native.Nat.{_*_, _≤_};
+ghost use Rattle.volume.specs.BlockMap.{maxEntries};
+ghost use Rattle.volume.specs.Header.{mapStart};
+ghost use Rattle.volume.specs.HeaderWriter.{headerFront, reservedAndRevision, wordsBytes, writeHeader, writtenAnswer, wrote};
 use crate::attributes::attributes_fault;
 use crate::block_map::has_zero;
-use crate::block_map::size_fault;
-use crate::block_map::wide;
+use crate::block_map::header_length;
+use crate::block_map::map_fault;
 use crate::header::ATTRIBUTES;
 use crate::header::BLOCK_MAP;
 use crate::header::CHECKSUM;
@@ -19,6 +21,7 @@ use crate::header::LENGTH;
 use crate::header::RESERVED;
 use crate::header::SIGNATURE;
 use crate::header::SIGNATURE_PLACE;
+use crate::header::WORD_MODULUS;
 use crate::header::word_sum;
 
 // Three reserved zeros, then revision 1, as one little-endian number.
@@ -40,8 +43,7 @@ pub fn write_header(
     map: &[u32],
     room: &mut [u8],
 ) -> Written
-    ensures { λ r. ⌜ r ≡ writeHeader guid len attributes (now (map .entry)) (now (room .entry)) .answer ⌝ }
-    ensures { λ _. ⌜ now (room .exit) ≡ writeHeader guid len attributes (now (map .entry)) (now (room .entry)) .room ⌝ }
+    ensures { λ r. ⌜ wrote (writtenAnswer r) (now (room .exit)) ≡ writeHeader guid len attributes (now (map .entry)) (now (room .entry)) ⌝ }
 {
     if has_zero(map) {
         return Written::Refused(106);
@@ -50,26 +52,26 @@ pub fn write_header(
         return Written::Refused(106);
     }
     let n = map.len() / 2;
-    if size_fault(n, map, len) {
+    if map_fault(n, map, len) {
         return Written::Refused(107);
     }
     if attributes_fault(attributes) {
         return Written::Refused(108);
     }
-    let header = 64 + 8 * n;
+    let header = header_length(n);
     if room.len() < header {
         return Written::Refused(5);
     }
     store_fields(guid, len, attributes, n, room);
     store_map(map, room);
-    let sum = word_sum(&room[..header]) % 65536;
-    numbers::store(room, CHECKSUM, 2, (65536 - sum) % 65536);
+    let sum = word_sum(&room[..header]) % WORD_MODULUS;
+    numbers::store(room, CHECKSUM, 2, (WORD_MODULUS - sum) % WORD_MODULUS);
     Written::Success(header)
 }
 
 // Stores a header's first 56 bytes, with 0 for the checksum.
 fn store_fields(guid: [u8; 16], len: u64, attributes: u32, n: usize, room: &mut [u8])
-    requires { ⌜ n ≤ 32 ⌝ }
+    requires { ⌜ n ≤ maxEntries ⌝ }
     ensures { λ _. ⌜ now (room .exit) ≡ sets (now (room .entry)) 0 (headerFront guid len attributes n ++ (leBytes 2 0 ++ reservedAndRevision)) ⌝ }
 {
     numbers::store(room, 0, 8, 0);
@@ -78,19 +80,19 @@ fn store_fields(guid: [u8; 16], len: u64, attributes: u32, n: usize, room: &mut 
     numbers::store(room, LENGTH, 8, len);
     numbers::store(room, SIGNATURE_PLACE, 4, SIGNATURE as u64);
     numbers::store(room, ATTRIBUTES, 4, attributes as u64);
-    numbers::store(room, HEADER_LENGTH, 2, 64 + 8 * n as u64);
+    numbers::store(room, HEADER_LENGTH, 2, header_length(n) as u64);
     numbers::store(room, CHECKSUM, 2, 0);
     numbers::store(room, RESERVED, 4, RESERVED_AND_REVISION);
 }
 
 // Stores map words and the closing pair, from byte 56 on.
 fn store_map(map: &[u32], room: &mut [u8])
-    requires { ⌜ length (now map) ≤ 64 ⌝ }
-    ensures { λ _. ⌜ now (room .exit) ≡ sets (now (room .entry)) 56 (wordsBytes (now (map .entry)) ++ replicate 8 0) ⌝ }
+    requires { ⌜ length (now map) ≤ 2 * maxEntries ⌝ }
+    ensures { λ _. ⌜ now (room .exit) ≡ sets (now (room .entry)) mapStart (wordsBytes (now (map .entry)) ++ replicate 8 0) ⌝ }
 {
     let mut i = 0;
     while i < map.len() {
-        numbers::store(room, BLOCK_MAP + 4 * i, 4, wide(map[i]));
+        numbers::store(room, BLOCK_MAP + 4 * i, 4, numbers::wide(map[i]));
         i += 1;
     }
     numbers::store(room, BLOCK_MAP + 4 * i, 8, 0);

@@ -1,15 +1,10 @@
-// Framework firmware volumes (version 0.9): opening and writing a header, and the block service,
-// over volume bytes that the caller lends.
+// Framework firmware volumes (version 0.9), the lower layer: opening a volume, writing a volume header, and the state that
+// opening answers. The block service over that state is the crate `block_service`.
 //
 // Every public function answers every input and has no `requires`. A refusal carries document 01's number,
-// and changes no lent byte and no state.
-mod access;
+// and changes no lent byte.
 pub mod attributes;
 pub mod block_map;
-pub mod blocks;
-pub mod erase;
 pub mod header;
 pub mod header_writer;
-pub mod service;
-mod settings;
 pub mod state;

@@ -1,12 +1,13 @@
 // The state that opening answers and that every later call follows.
+ghost use mathlib.Core.List.{List};
 ghost use mathlib.Core.Path.{_≡_};
+ghost use Prim.Native.Nat.{ℕ};
 ghost use Rattle.volume.specs.State.{stateWith, unlawful};
 use crate::attributes::attributes_fault;
 use crate::attributes::base_fault;
 use crate::block_map::MAX_ENTRIES;
 use crate::block_map::all_zero;
-use crate::block_map::has_zero;
-use crate::block_map::size_fault;
+use crate::block_map::map_fault;
 
 // What a volume's header said when it was opened, and where the volume is mapped. The attributes
 // are what document 01 calls the settings. The block map is the first `entries` pairs of `map`, each a
@@ -41,27 +42,24 @@ pub(crate) fn state_with(
     }
 }
 
-// Whether a state breaks rule 111: 106, 107, 108 or 110, or a nonzero word beyond its entries.
-pub(crate) fn unlawful_state(st: State) -> bool
-    ensures { λ r. ⌜ r ≡ unlawful st ⌝ }
+// Whether a state of these parts breaks rule 111: 106, 107, 108 or 110, or a nonzero word beyond its entries. The GUID
+// has no part in it. The parts come singly, with the map lent, so that no call copies a state to ask this.
+pub fn unlawful_state(len: u64, attributes: u32, base: u64, entries: usize, map: &[u32; 64]) -> bool
+    ensures { λ r. ⌜ ((guid : List ℕ) → r ≡ unlawful (stateWith guid len attributes base entries (now (map .entry)))) ⌝ }
 {
-    let n = st.entries;
-    let map = st.map;
-    if MAX_ENTRIES < n {
+    if MAX_ENTRIES < entries {
         return true;
     }
-    let end = 2 * n;
-    if has_zero(&map[..end]) {
+    let words: &[u32] = map;
+    let end = 2 * entries;
+    if map_fault(entries, &words[..end], len) {
         return true;
     }
-    if size_fault(n, &map[..end], st.length) {
+    if attributes_fault(attributes) {
         return true;
     }
-    if attributes_fault(st.attributes) {
+    if base_fault(attributes, base) {
         return true;
     }
-    if base_fault(st.attributes, st.base) {
-        return true;
-    }
-    !all_zero(&map[end..])
+    !all_zero(&words[end..])
 }

@@ -3,9 +3,9 @@ use Prim.Native.Nat.{ℕ}
 use mathlib.Core.List.{List, [], _∷_}
 use mathlib.Core.Path.{_≡_, _∙_, ap}
 use borrow.Author.Needs.{needs}
-use Rattle.volume.specs.Erase.{endOfList}
+use Rattle.block_service.specs.Erase.{endOfList}
 use Rattle.volume.specs.Header.{openVolume}
-use Rattle.volume.specs.Service.{Answer, Result, result, step, eraseBlocks, write}
+use Rattle.block_service.specs.Service.{Answer, Result, result, step, eraseBlocks, write}
 use Rattle.volume.specs.declared.header.Opened.{Opened}
 use Rattle.example.specs.Mask.{putMask}
 use Rattle.example.proofs.put_mask.Statement.{statement}

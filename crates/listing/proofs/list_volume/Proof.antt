@@ -10,7 +10,7 @@ use lib.ListN.{length}
 use Rattle.common.proofs.Lists.{sets-past}
 use Rattle.listing.specs.Listing.{maxListing, linesOf, listing}
 use Rattle.listing.specs.declared.Listed.the-variants as Listed
-use Rattle.volume.proofs.HeaderLaws.{opened-entries}
+use Rattle.volume.proofs.header.Fields.{opened-entries}
 use Rattle.listing.proofs.Lines.{list-refused, list-done}
 use Rattle.listing.proofs.list_volume.Statement.{statement}
 use Rattle.listing.proofs.list_volume.Tie as tie

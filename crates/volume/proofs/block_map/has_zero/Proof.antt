@@ -5,7 +5,7 @@ use borrow.Author.Needs.{needs}
 use denote.Ref.{now}
 use lib.ListN.{length, drop}
 use Rattle.volume.specs.BlockMap.{hasZero}
-use Rattle.volume.proofs.BlockMap.{hasZero-here, hasZero-next, hasZero-end}
+use Rattle.volume.proofs.block_map.Words.{hasZero-here, hasZero-next, hasZero-end}
 use Rattle.volume.proofs.block_map.has_zero.Statement.{statement}
 use Rattle.volume.proofs.block_map.has_zero.Tie as tie
 

@@ -10,7 +10,7 @@ use lib.ListN.{length, getD}
 use Rattle.common.specs.Refusals.{firstRefusal}
 use Rattle.numbers.specs.LittleEndian.{le}
 use Rattle.volume.specs.Header.{headerLengthAt, headerLengthFault, signature, answered, openRefusals}
-use Rattle.volume.proofs.HeaderLaws.{header-length-passed}
+use Rattle.volume.proofs.header.Fields.{header-length-passed}
 use Rattle.volume.proofs.header.bytes_refusal.Statement.{statement}
 use Rattle.volume.proofs.header.bytes_refusal.Tie as tie
 

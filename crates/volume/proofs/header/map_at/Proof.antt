@@ -8,7 +8,7 @@ use denote.Ref.{now}
 use lib.ListN.{length-set, length, take, drop, replicate}
 use Rattle.common.proofs.Lists.{fill-next, zeros-next, fill-front}
 use Rattle.volume.specs.Header.{wordsAt}
-use Rattle.volume.proofs.HeaderLaws.{length-wordsAt, wordsAt-at}
+use Rattle.volume.proofs.header.Fields.{length-wordsAt, wordsAt-at}
 use Rattle.volume.proofs.header.map_at.Statement.{statement}
 use Rattle.volume.proofs.header.map_at.Tie as tie
 

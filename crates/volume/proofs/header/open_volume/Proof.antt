@@ -6,7 +6,7 @@ use denote.Ref.{now}
 use Rattle.common.specs.Refusals.{firstRefusal}
 use Rattle.volume.specs.Header.{answered}
 use Rattle.volume.specs.declared.header.Opening.the-variants as Opening
-use Rattle.volume.proofs.HeaderLaws.{bytesRefusals, entries-bound, answered-success, readable, open-early, open-late, open-success}
+use Rattle.volume.proofs.header.Fields.{bytesRefusals, entries-bound, answered-success, readable, open-early, open-late, open-success}
 use Rattle.volume.proofs.header.open_volume.Statement.{statement}
 use Rattle.volume.proofs.header.open_volume.Tie as tie
 

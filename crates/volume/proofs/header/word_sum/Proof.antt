@@ -6,7 +6,7 @@ use borrow.Author.Needs.{needs}
 use denote.Ref.{now}
 use lib.ListN.{length, drop}
 use Rattle.volume.specs.Header.{wordSum}
-use Rattle.volume.proofs.HeaderLaws.{wordSum-next, wordSum-end}
+use Rattle.volume.proofs.header.Fields.{wordSum-next, wordSum-end}
 use Rattle.volume.proofs.header.word_sum.Statement.{statement}
 use Rattle.volume.proofs.header.word_sum.Tie as tie
 

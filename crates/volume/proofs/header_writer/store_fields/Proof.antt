@@ -3,7 +3,7 @@ use mathlib.Core.Path.{_≡_, _∙_}
 use borrow.Author.Needs.{needs}
 use denote.Ref.{now}
 use lib.ListN.{length}
-use Rattle.volume.proofs.HeaderWriterLaws.{fields-stored}
+use Rattle.volume.proofs.header_writer.Stores.{fields-stored}
 use Rattle.volume.proofs.header_writer.store_fields.Statement.{statement}
 use Rattle.volume.proofs.header_writer.store_fields.Tie as tie
 

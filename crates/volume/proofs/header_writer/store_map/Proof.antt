@@ -9,7 +9,7 @@ use lib.ListN.{length, drop, replicate}
 use lib.Seq.{sets}
 use Rattle.numbers.specs.LittleEndian.{leBytes}
 use Rattle.volume.specs.HeaderWriter.{wordsBytes}
-use Rattle.volume.proofs.HeaderWriterLaws.{words-next, words-end}
+use Rattle.volume.proofs.header_writer.Stores.{words-next, words-end}
 use Rattle.volume.proofs.header_writer.store_map.Statement.{statement}
 use Rattle.volume.proofs.header_writer.store_map.Tie as tie
 

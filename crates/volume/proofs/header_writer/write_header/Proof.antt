@@ -16,8 +16,8 @@ use Rattle.volume.specs.Header.{wordSum}
 use Rattle.volume.specs.HeaderWriter.{checksum, headerBytes, wordsFault, writeRefusals, wordsBytes, headerWith}
 use Rattle.volume.specs.Attributes.{attributesFault}
 use Rattle.volume.specs.BlockMap.{sizeFault}
-use Rattle.volume.proofs.BlockMap.{size-passed}
-use Rattle.volume.proofs.HeaderWriterLaws.{write-refused, write-done, header-stored, checksum-stored, length-header}
+use Rattle.volume.proofs.block_map.Words.{size-passed}
+use Rattle.volume.proofs.header_writer.Stores.{write-refused, write-done, header-stored, checksum-stored, length-header}
 use Rattle.volume.proofs.header_writer.write_header.Statement.{statement}
 use Rattle.volume.proofs.header_writer.write_header.Tie as tie
 

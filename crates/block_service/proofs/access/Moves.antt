@@ -1,0 +1,92 @@
+-- Laws of reading and writing, in the form in which the code meets them: a part of the volume that was lent, changed and handed back.
+use Prim.Native.Nat.{ℕ, _+_, _-_, _≤_, _<_}
+use mathlib.Core.Path.{_≡_, refl, sym, _∙_}
+use mathlib.Core.Bool.{Bool, true, false, cond, _&&_}
+use mathlib.Core.List.{List, _++_}
+use native.Mathlib.Nat.{add-sub-cancel-left}
+use native.Mathlib.Omega.{arith}
+use borrow.Author.Tests.{leb-true, ltb-true}
+use lib.Bits.{bitAnd, bitOr}
+use lib.Dec.{leb, ltb}
+use lib.ListN.{length, getD, take, drop, length-drop}
+use lib.Seq.{length-take-le, getD-take}
+use Rattle.block_service.specs.Access.{countMoved, writtenByte}
+use Rattle.volume.specs.Attributes.{flag, stickyWrite, erasePolarity}
+use Rattle.block_service.specs.Service.{edit, changedByte, writeChange, keep, store}
+use Rattle.common.proofs.Edit.{within, edit-part, edit-same, edit-keep, edit-replace}
+
+-- the write rule's three cases
+pub written-plain : (a : ℕ) → flag a stickyWrite ≡ false → (x y : ℕ) → y ≡ writtenByte a x y
+unfolding writtenByte
+written-plain a e x y = rw e
+
+pub written-and : (a : ℕ) → flag a stickyWrite ≡ true → flag a erasePolarity ≡ true → (x y : ℕ) → bitAnd x y ≡ writtenByte a x y
+unfolding writtenByte
+written-and a e p x y = rw (e, p)
+
+pub written-or : (a : ℕ) → flag a stickyWrite ≡ true → flag a erasePolarity ≡ false → (x y : ℕ) → bitOr x y ≡ writtenByte a x y
+unfolding writtenByte
+written-or a e p x y = rw (e, p)
+
+-- a length of a part that runs from `at` to `at + n`
+pub part-length : (at n : ℕ) (v : List ℕ) → at + n ≤ length v → length (take (at + n - at) (drop at v)) ≡ n
+part-length at n v h = rw (add-sub-cancel-left at n) (length-take-le n (drop at v) (rw (length-drop at v) (omega arith)))
+
+-- a read: the bytes that were copied to the front of the buffer
+pub read-back : (at n : ℕ) (v buffer part : List ℕ) → part ≡ take (at + n - at) (drop at v)
+    → part ++ drop n buffer ≡ take n (drop at v) ++ drop n buffer
+read-back at n v buffer part e = rw (e, add-sub-cancel-left at n)
+
+-- the byte that a write changes at i, and those that it does not change
+stretch : (a at n : ℕ) (new : List ℕ) (f : ℕ → ℕ → ℕ) → n ≤ length new → ((x y : ℕ) → f x y ≡ writtenByte a x y) → (i x : ℕ)
+    → within at n (λ j y. f y (getD (take n new) j 0)) i x ≡ changedByte a (writeChange at n new i) x
+unfolding changedByte writeChange
+stretch a at n new f h e i x = go (leb at i) refl (ltb i (at + n)) refl
+  where
+    go : (t : Bool) → leb at i ≡ t → (u : Bool) → ltb i (at + n) ≡ u
+        → cond (t && u) (f x (getD (take n new) (i - at) 0)) x ≡ changedByte a (cond (t && u) (store (getD new (i - at) 0)) keep) x
+    go true p true q =
+        let p' : at ≤ i = leb-true _ _ p in
+        let q' : i < at + n = ltb-true _ _ q in
+        rw (getD-take n new (i - at) 0 (omega arith), e)
+    go true p false q = refl
+    go false p true q = refl
+    go false p false q = refl
+
+-- a write: the part that was merged with the data
+pub write-back : (a at n : ℕ) (v new part : List ℕ) (f : ℕ → ℕ → ℕ) → at + n ≤ length v → n ≤ length new
+    → ((x y : ℕ) → f x y ≡ writtenByte a x y)
+    → part ≡ edit (λ i x. f x (getD (take n new) i 0)) 0 (take (at + n - at) (drop at v))
+    → take at v ++ (part ++ drop (at + n - at) (drop at v)) ≡ edit (λ i x. changedByte a (writeChange at n new i) x) 0 v
+write-back a at n v new part f h k e p =
+    rw (p, add-sub-cancel-left at n)
+    (edit-part (λ i x. f x (getD (take n new) i 0)) at n v h
+    ∙ edit-same (within at n (λ i x. f x (getD (take n new) i 0))) (λ i x. changedByte a (writeChange at n new i) x) 0 0 v
+    (λ i x b. stretch a at n new f k e (0 + i) x))
+
+-- and a plain write: the part is the data
+pub copy-back : (a at n : ℕ) (v new part : List ℕ) → at + n ≤ length v → n ≤ length new → flag a stickyWrite ≡ false → part ≡ take n new
+    → take at v ++ (part ++ drop (at + n - at) (drop at v)) ≡ edit (λ i x. changedByte a (writeChange at n new i) x) 0 v
+copy-back a at n v new part h k e p =
+    write-back a at n v new part (λ x y. y) h k (written-plain a e)
+    (p ∙ sym (edit-replace (take (at + n - at) (drop at v)) (take n new) (part-length at n v h ∙ sym (length-take-le n new k))))
+
+-- a write of no bytes
+pub write-none : (a at : ℕ) (n : ℕ) (v new : List ℕ) → n ≡ 0 → v ≡ edit (λ i x. changedByte a (writeChange at n new i) x) 0 v
+unfolding changedByte writeChange
+write-none a at n v new e =
+    sym (edit-keep (λ i x. changedByte a (writeChange at n new i) x) 0 v (λ i x b. rw e (go (0 + i) x (leb at (0 + i)) refl (ltb (0 + i) (at + 0)) refl)))
+  where
+    go : (i x : ℕ) (t : Bool) → leb at i ≡ t → (u : Bool) → ltb i (at + 0) ≡ u → changedByte a (cond (t && u) (store (getD new (i - at) 0)) keep) x ≡ x
+    go i x true p true q =
+        let p' : at ≤ i = leb-true _ _ p in
+        let q' : i < at + 0 = ltb-true _ _ q in
+        absurd (omega arith)
+    go i x true p false q = refl
+    go i x false p true q = refl
+    go i x false p false q = refl
+
+-- a count of bytes moved passes neither the data nor the block's end
+pub moves : (s l o n k m : ℕ) → k ≡ countMoved l o n → s + l ≤ m → (k ≤ n) × (0 < k → s + o + k ≤ m)
+unfolding countMoved
+moves s l o n k m e h = (omega arith, λ p. omega arith)

@@ -1,0 +1,133 @@
+-- Laws of erase lists: a list from place i on, as a walk over its pairs meets it; and the erase of a run of blocks and of a whole list.
+use Prim.Native.Nat.{ℕ, suc, _+_, _-_, _≤_, _<_}
+use mathlib.Core.Path.{_≡_, refl, sym, _∙_}
+use mathlib.Core.Bool.{Bool, true, false, not, cond, _&&_, _||_}
+use mathlib.Core.List.{List, [], _∷_, _++_}
+use native.Mathlib.Omega.{arith}
+use borrow.Author.Tests.{le-leb, lt-leb, ne-eqb, leb-true, ltb-true, ltb-false, eqb-false}
+use lib.Dec.{leb, ltb, eqb}
+use lib.ListN.{length, getD, take, drop, length-drop, drop-of-length-le}
+use lib.Seq.{drop-cons}
+use Rattle.common.proofs.Lists.{drop-two}
+use Rattle.volume.specs.BlockMap.{blocks}
+use Rattle.block_service.specs.Blocks.{blockAt, firstByte}
+use Rattle.block_service.specs.Erase.{endOfList, goodList, names}
+use Rattle.block_service.specs.Service.{edit}
+use Rattle.common.proofs.Edit.{within, edit-part, edit-same, edit-keep, edit-edit}
+use Rattle.block_service.proofs.blocks.Places.{before-same, not-before-same}
+
+-- the list from place i on, where the terminator stands there
+module _ (w : List ℕ) (i : ℕ) (h : i < length w) (e : getD w i 0 ≡ endOfList) where
+  pub ends-good : (n : ℕ) → true ≡ goodList n (drop i w)
+  unfolding goodList
+  ends-good n = rw (drop-cons w i 0 h, e) (go (drop (suc i) w))
+    where
+      go : (r : List ℕ) → true ≡ goodList n (endOfList ∷ r)
+      go [] = refl
+      go (c ∷ r) = refl
+
+  pub ends-names : (b : ℕ) → names (drop i w) b ≡ false
+  unfolding names
+  ends-names b = rw (drop-cons w i 0 h, e) (go (drop (suc i) w))
+    where
+      go : (r : List ℕ) → names (endOfList ∷ r) b ≡ false
+      go [] = refl
+      go (c ∷ r) = refl
+
+-- where no word stands there, or a last one that is no terminator
+pub past-list : (w : List ℕ) (i n : ℕ) → length w ≤ i → false ≡ goodList n (drop i w)
+unfolding goodList
+past-list w i n h = rw (drop-of-length-le w {i = i} h)
+
+pub odd-list : (w : List ℕ) (i n : ℕ) → i < length w → length w - i < 2 → (getD w i 0 ≡ endOfList → ⊥) → false ≡ goodList n (drop i w)
+unfolding goodList
+odd-list w i n h s e = rw (drop-cons w i 0 h) (go (drop (suc i) w) (rw (length-drop (suc i) w) (omega arith)))
+  where
+    go : (r : List ℕ) → length r ≤ 0 → false ≡ goodList n (getD w i 0 ∷ r)
+    go [] p = rw (ne-eqb (getD w i 0) endOfList e)
+    go (c ∷ r) p = absurd (omega arith)
+
+-- where a pair stands there, of first block f and count c
+module _ (w : List ℕ) (i f c : ℕ) (h : i + 1 < length w) (ef : f ≡ getD w i 0) (ec : c ≡ getD w (i + 1) 0) (e : f ≡ endOfList → ⊥) where
+  pair-words : drop i w ≡ f ∷ c ∷ drop (i + 2) w
+  pair-words = rw (drop-two w i h, ef, ec)
+
+  pub zero-pair : (n : ℕ) → c ≡ 0 → false ≡ goodList n (drop i w)
+  unfolding goodList
+  zero-pair n z = rw (pair-words, ne-eqb f endOfList e, z)
+
+  pub far-pair : (n : ℕ) → (c ≡ 0 → ⊥) → n < f + c → false ≡ goodList n (drop i w)
+  unfolding goodList
+  far-pair n z p = rw (pair-words, ne-eqb f endOfList e, ne-eqb c 0 z, lt-leb (f + c) n p)
+
+  pub good-pair : (n : ℕ) → (c ≡ 0 → ⊥) → f + c ≤ n → goodList n (drop (i + 2) w) ≡ goodList n (drop i w)
+  unfolding goodList
+  good-pair n z p = rw (pair-words, ne-eqb f endOfList e, ne-eqb c 0 z, le-leb (f + c) n p)
+
+  -- a good list's pair is good, and so is what follows it
+  pub pair-good : (n : ℕ) → goodList n (drop i w) ≡ true → (0 < c) × (f + c ≤ n) × (goodList n (drop (i + 2) w) ≡ true)
+  unfolding goodList
+  pair-good n g = go (eqb c 0) refl (leb (f + c) n) refl (rw (pair-words, ne-eqb f endOfList e) at g)
+    where
+      go : (t : Bool) → eqb c 0 ≡ t → (u : Bool) → leb (f + c) n ≡ u → (not t && (u && goodList n (drop (i + 2) w))) ≡ true
+          → (0 < c) × (f + c ≤ n) × (goodList n (drop (i + 2) w) ≡ true)
+      go false p true q k = let z = eqb-false c 0 p in (omega arith, leb-true _ _ q, k)
+      go true p true q k = absurd (let z : _≡_ {A = ℕ} 0 1 = cc in omega arith)
+      go true p false q k = absurd (let z : _≡_ {A = ℕ} 0 1 = cc in omega arith)
+      go false p false q k = absurd (let z : _≡_ {A = ℕ} 0 1 = cc in omega arith)
+
+  -- a pair names its own blocks, and the words after it name theirs
+  pub pair-names : (b : ℕ) → names (drop i w) b ≡ (leb f b && ltb b (f + c) || names (drop (i + 2) w) b)
+  unfolding names
+  pair-names b = rw (pair-words, ne-eqb f endOfList e)
+
+-- a good list's word that is no terminator has another after it
+pub good-even : (w : List ℕ) (i n : ℕ) → i < length w → (getD w i 0 ≡ endOfList → ⊥) → goodList n (drop i w) ≡ true → i + 1 < length w
+good-even w i n h e g = go (ltb (i + 1) (length w)) refl
+  where
+    go : (t : Bool) → ltb (i + 1) (length w) ≡ t → i + 1 < length w
+    go true p = ltb-true _ _ p
+    go false p =
+        let q : length w ≤ i + 1 = ltb-false _ _ p in
+        let k = odd-list w i n h (omega arith) e in
+        absurd (let z : _≡_ {A = ℕ} 0 1 = cc in omega arith)
+
+-- the erase of a run of blocks, and of the blocks of a list, each to the value x
+abbrev pub runErased : List ℕ → ℕ → ℕ → ℕ → ℕ → ℕ → ℕ
+runErased m f c x i old = cond (leb f (blockAt m i) && ltb (blockAt m i) (f + c)) x old
+
+abbrev pub listErased : List ℕ → List ℕ → ℕ → ℕ → ℕ → ℕ
+listErased m w x i old = cond (names w (blockAt m i)) x old
+
+-- a run's blocks are the bytes from its first block's first to the first of the block after it
+pub run-back : (m : List ℕ) (f c x s e : ℕ) (v part : List ℕ) → f + c ≤ blocks m → s ≡ firstByte m f → e ≡ firstByte m (f + c) → s ≤ e
+    → e ≤ length v → part ≡ edit (λ i old. x) 0 (take (e - s) (drop s v))
+    → take s v ++ (part ++ drop (e - s) (drop s v)) ≡ edit (runErased m f c x) 0 v
+run-back m f c x s e v part h ps pe o b p =
+    rw p
+    (edit-part (λ i old. x) s (e - s) v (omega arith)
+    ∙ edit-same (within s (e - s) (λ i old. x)) (runErased m f c x) 0 0 v
+    (λ i old k.
+    let z : s + (e - s) ≡ e = omega arith in
+    rw (z, not-before-same m (0 + i) f (omega arith), before-same m (0 + i) (f + c) h, ps, pe)))
+
+-- the first pair's run erased, and then what the words after it name
+pub erase-next : (m w : List ℕ) (i f c x : ℕ) (v u : List ℕ) → i + 1 < length w → f ≡ getD w i 0 → c ≡ getD w (i + 1) 0 → (f ≡ endOfList → ⊥)
+    → u ≡ edit (runErased m f c x) 0 v → edit (listErased m (drop (i + 2) w) x) 0 u ≡ edit (listErased m (drop i w) x) 0 v
+erase-next m w i f c x v u h ef ec e p =
+    rw p
+    (edit-edit (listErased m (drop (i + 2) w) x) (runErased m f c x) 0 v
+    ∙ edit-same (λ j old. listErased m (drop (i + 2) w) x j (runErased m f c x j old)) (listErased m (drop i w) x) 0 0 v
+    (λ j old k.
+    rw (pair-names w i f c h ef ec e (blockAt m (0 + j)))
+    (go (leb f (blockAt m (0 + j)) && ltb (blockAt m (0 + j)) (f + c)) (names (drop (i + 2) w) (blockAt m (0 + j))) old)))
+  where
+    go : (s t : Bool) (old : ℕ) → cond t x (cond s x old) ≡ cond (s || t) x old
+    go true true old = refl
+    go true false old = refl
+    go false true old = refl
+    go false false old = refl
+
+-- at the terminator nothing is left to erase
+pub erase-end : (m w : List ℕ) (i x : ℕ) (v : List ℕ) → i < length w → getD w i 0 ≡ endOfList → v ≡ edit (listErased m (drop i w) x) 0 v
+erase-end m w i x v h e = sym (edit-keep (listErased m (drop i w) x) 0 v (λ j old k. rw (ends-names w i h e (blockAt m (0 + j)))))

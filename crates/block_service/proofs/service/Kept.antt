@@ -1,0 +1,173 @@
+-- What holds of all the calls: bytes past the state's length never change; every byte below the length lies in exactly one block; what the number that
+-- block size answers counts; and a lawful state stays lawful.
+use Prim.Native.Nat.{ℕ, _+_, _-_, _*_, _/_, _≤_, _<_}
+use mathlib.Core.Path.{_≡_, refl, sym, ap, _∙_}
+use mathlib.Core.Bool.{false}
+use mathlib.Core.List.{List, [], _∷_}
+use mathlib.Core.Option.{Option, none, some}
+use native.Mathlib.Omega.{arith}
+use borrow.Author.Tests.{leb-false}
+use lib.Dec.{T, leb}
+use lib.ListN.{length, getD}
+use Rattle.common.specs.Refusals.{row, firstRefusal, any}
+use Rattle.common.proofs.Refusals.{row-passed}
+use Rattle.block_service.specs.Access.{countMoved}
+use Rattle.volume.specs.Attributes.{attributesFault, baseFault}
+use Rattle.volume.specs.BlockMap.{blocks, bytes}
+use Rattle.block_service.specs.Blocks.{place, lengthOf, leftOf, inBlock, blockAt}
+use Rattle.block_service.specs.Service.{refused, success, Call, getAttributes, setAttributes, getPhysicalAddress, getBlockSize, read, write, eraseBlocks, Effect, reply, setTo, copyOut, change, refusals, effect, decide, Result, withAttributes, perform, bufferOf, step}
+use Rattle.block_service.specs.Settings.{changesFixed, settingRefusals}
+use Rattle.volume.specs.State.{stateWith, mapOf, unlawful}
+use Rattle.volume.specs.declared.state.State.{State}
+use Rattle.block_service.specs.declared.blocks.Place.{Place}
+use Rattle.block_service.specs.declared.blocks.Place.the-variants.{At, Missing}
+use Rattle.common.proofs.Edit.{length-edit}
+use Rattle.volume.proofs.state.Lawful.{lawful}
+use Rattle.block_service.proofs.settings.Rules.{fixed-same}
+use Rattle.block_service.proofs.blocks.Places.{in-some-block, in-one-block, found-within, place-lost, past-every-block}
+use Rattle.block_service.proofs.blocks.Runs.{run-places, run-ends}
+use Rattle.block_service.proofs.service.Steps.{refused-step, allowed-step}
+use Rattle.block_service.proofs.service.Effects.{effect-answers, passed-success, passed-write, passed-erase, erase-other, write-other}
+
+-- ---- what no call changes
+
+-- the map is the same after every call
+pub map-kept : (st : State) (v : List ℕ) (c : Call) → mapOf (step st v c .state) ≡ mapOf st
+unfolding step perform withAttributes stateWith mapOf
+map-kept st v c = go (decide st (length v) c)
+  where
+    go : (e : Effect) → mapOf (perform st v (bufferOf c) e .state) ≡ mapOf st
+    go (reply a) = refl
+    go (setTo new) = refl
+    go (copyOut at n a) = refl
+    go (change f a) = refl
+
+-- and so is the volume's length
+pub length-kept : (st : State) (v : List ℕ) (c : Call) → length (step st v c .volume) ≡ length v
+unfolding step perform
+length-kept st v c = go (decide st (length v) c)
+  where
+    go : (e : Effect) → length (perform st v (bufferOf c) e .volume) ≡ length v
+    go (reply a) = refl
+    go (setTo new) = refl
+    go (copyOut at n a) = refl
+    go (change f a) = length-edit _ 0 v
+
+-- a call that passed its table is not refused
+passed-answers : (st : State) (v : List ℕ) (c : Call) → firstRefusal (refusals st (length v) c) ≡ none → (n : ℕ) → step st v c .answer ≡ refused n → ⊥
+passed-answers st v c e n q = effect-answers st v (bufferOf c) c n (ap (λ (r : Result). r .answer) (allowed-step st v c e) ∙ q)
+
+allowed-past : (st : State) (v : List ℕ) (c : Call) (i : ℕ) → st .length ≤ i → firstRefusal (refusals st (length v) c) ≡ none
+    → getD (step st v c .volume) i 0 ≡ getD v i 0
+unfolding perform effect countMoved
+allowed-past st v getAttributes i h e = sym (ap (λ (r : Result). getD (r .volume) i 0) (allowed-step st v getAttributes e))
+allowed-past st v (setAttributes new) i h e = sym (ap (λ (r : Result). getD (r .volume) i 0) (allowed-step st v (setAttributes new) e))
+allowed-past st v getPhysicalAddress i h e = sym (ap (λ (r : Result). getD (r .volume) i 0) (allowed-step st v getPhysicalAddress e))
+allowed-past st v (getBlockSize b) i h e = sym (ap (λ (r : Result). getD (r .volume) i 0) (allowed-step st v (getBlockSize b) e))
+allowed-past st v (read b o buffer) i h e = sym (ap (λ (r : Result). getD (r .volume) i 0) (allowed-step st v (read b o buffer) e))
+allowed-past st v (write b o new) i h e =
+    let p = passed-write st (length v) b o new e in
+    go (place (mapOf st) b) refl (p .lawful .total) (leb-false _ _ (p .last))
+  where
+    go : (x : Place) → place (mapOf st) b ≡ x → bytes (mapOf st) ≡ st .length → b < blocks (mapOf st)
+        → getD (step st v (write b o new) .volume) i 0 ≡ getD v i 0
+    go (At e' s l r) at t k =
+        write-other st v b o new (passed-answers st v (write b o new) e) e' s l r at i
+        (λ p q. let w = found-within (mapOf st) b e' s l r at in omega arith)
+    go Missing at t k = absurd (omega (arith, place-lost (mapOf st) b at))
+allowed-past st v (eraseBlocks list) i h e =
+    let p = passed-erase st (length v) list e in
+    erase-other st v list (sym (ap (λ (r : Result). r .answer) (allowed-step st v (eraseBlocks list) e))) i
+    (λ b t k. past-every-block (mapOf st) b i (omega (arith, p .lawful .total)) k)
+
+-- volume bytes past the state's length never change
+pub past-length-kept : (st : State) (v : List ℕ) (c : Call) (i : ℕ) → st .length ≤ i → getD (step st v c .volume) i 0 ≡ getD v i 0
+past-length-kept st v c i h = go (firstRefusal (refusals st (length v) c)) refl
+  where
+    go : (o : Option ℕ) → firstRefusal (refusals st (length v) c) ≡ o → getD (step st v c .volume) i 0 ≡ getD v i 0
+    go (some n) e = ap (λ (r : Result). getD (r .volume) i 0) (sym (refused-step st v c n e))
+    go none e = allowed-past st v c i h e
+
+-- ---- blocks
+
+-- every byte below a lawful state's length lies in exactly one block
+pub one-block : (st : State) → unlawful st ≡ false → (i : ℕ) → i < st .length
+    → (b : ℕ) × (T (inBlock (mapOf st) b i)) × ((a : ℕ) → T (inBlock (mapOf st) a i) → a ≡ b)
+one-block st ok i h =
+    let t = in-some-block (mapOf st) i (omega (arith, lawful st ok .total)) in
+    (blockAt (mapOf st) i, t, λ a k. in-one-block (mapOf st) a (blockAt (mapOf st) i) i k t)
+
+-- what block size answers: the block's length l, and a number r of blocks
+module _ (st : State) (v : List ℕ) (b l r : ℕ) (h : step st v (getBlockSize b) .answer ≡ success (l ∷ r ∷ [])) where
+  -- the block is there, in an entry e, with that length and r blocks to the entry's end
+  pub size-place : (e : ℕ) × (s : ℕ) × (place (mapOf st) b ≡ At e s l r)
+  unfolding refusals perform effect lengthOf leftOf
+  size-place =
+      let e = passed-success st v (getBlockSize b) (l ∷ r ∷ []) h in
+      let d = row-passed (row (leb (blocks (mapOf st)) b) 2) [] (row-passed (row (unlawful st) 111) _ e .1) in
+      go (place (mapOf st) b) refl (leb-false _ _ (d .0)) (ap (λ (x : Result). x .answer) (allowed-step st v (getBlockSize b) e) ∙ h)
+    where
+      go : (p : Place) → place (mapOf st) b ≡ p → b < blocks (mapOf st) → success (lengthOf (place (mapOf st) b) ∷ leftOf (place (mapOf st) b) ∷ []) ≡ success (l ∷ r ∷ [])
+          → (e : ℕ) × (s : ℕ) × (place (mapOf st) b ≡ At e s l r)
+      go (At e s l' r') at k q =
+          let q' = rw at at q in
+          let a : l' ≡ l = cc in
+          let c : r' ≡ r = cc in
+          (e, s, at ∙ rw (a, c))
+      go Missing at k q = absurd (omega (arith, place-lost (mapOf st) b at))
+
+-- the r blocks from b on lie one after the other in b's entry, all of length l; the block after them, if there is one, is in a later entry
+pub run-in-entry : (m : List ℕ) (b e s l r : ℕ) → place m b ≡ At e s l r
+    → ((k : ℕ) → k < r → place m (b + k) ≡ At e (s + k * l) l (r - k))
+    × ((e' s' l' r' : ℕ) → place m (b + r) ≡ At e' s' l' r' → e < e')
+unfolding place
+run-in-entry m b e s l r h =
+    ((λ k p. run-places m 0 0 b e s l r k h p), λ e' s' l' r' q. run-ends m 0 0 b e s l r e' s' l' r' h q)
+
+-- ---- a lawful state stays lawful
+
+-- settings that agree in every fixed bit break the same rules
+same-attributes : (old new : ℕ) → old / 0x100 ≡ new / 0x100 → attributesFault new ≡ attributesFault old
+unfolding attributesFault any
+same-attributes old new e =
+    let a : new / 0x1000 ≡ old / 0x1000 = omega arith in
+    let b : new / 0x2000 ≡ old / 0x2000 = omega arith in
+    let c : new / 0x4000 ≡ old / 0x4000 = omega arith in
+    let d : new / 0x8000 ≡ old / 0x8000 = omega arith in
+    let f : new / 0x10000 ≡ old / 0x10000 = omega arith in
+    rw (← e, a, b, c, d, f)
+
+same-base : (old new base : ℕ) → old / 0x100 ≡ new / 0x100 → baseFault new base ≡ baseFault old base
+unfolding baseFault
+same-base old new base e = let a : new / 0x400 ≡ old / 0x400 = omega arith in rw a
+
+-- settings that were set keep the fixed bits above the lock
+kept-high : (old new : ℕ) → changesFixed old new ≡ false → old / 0x100 ≡ new / 0x100
+kept-high old new e = fixed-same old new e .high
+
+set-lawful : (st : State) (new : ℕ) → attributesFault new ≡ attributesFault (st .attributes) → baseFault new (st .base) ≡ baseFault (st .attributes) (st .base)
+    → unlawful st ≡ false → unlawful (withAttributes st new) ≡ false
+unfolding unlawful withAttributes stateWith mapOf
+set-lawful st new a b ok = rw (a, b) ok
+
+allowed-lawful : (st : State) (v : List ℕ) (c : Call) → firstRefusal (refusals st (length v) c) ≡ none → unlawful st ≡ false
+    → unlawful (perform st v (bufferOf c) (effect st c) .state) ≡ false
+unfolding perform effect refusals settingRefusals withAttributes
+allowed-lawful st v getAttributes e ok = ok
+allowed-lawful st v (setAttributes new) e ok =
+    let p = row-passed (row (changesFixed (st .attributes) new) 2) _ (row-passed (row (unlawful st) 111) _ e .1) in
+    let k = kept-high (st .attributes) new (p .0) in
+    set-lawful st new (same-attributes (st .attributes) new k) (same-base (st .attributes) new (st .base) k) ok
+allowed-lawful st v getPhysicalAddress e ok = ok
+allowed-lawful st v (getBlockSize b) e ok = ok
+allowed-lawful st v (read b o buffer) e ok = ok
+allowed-lawful st v (write b o new) e ok = ok
+allowed-lawful st v (eraseBlocks list) e ok = ok
+
+-- a lawful state stays lawful
+pub lawful-kept : (st : State) (v : List ℕ) (c : Call) → unlawful st ≡ false → unlawful (step st v c .state) ≡ false
+lawful-kept st v c ok = go (firstRefusal (refusals st (length v) c)) refl
+  where
+    go : (o : Option ℕ) → firstRefusal (refusals st (length v) c) ≡ o → unlawful (step st v c .state) ≡ false
+    go (some n) e = ap (λ (r : Result). unlawful (r .state)) (sym (refused-step st v c n e)) ∙ ok
+    go none e = ap (λ (r : Result). unlawful (r .state)) (sym (allowed-step st v c e)) ∙ allowed-lawful st v c e ok

@@ -1,0 +1,57 @@
+-- Where blocks lie (document 01, Block service): "Blocks are numbered from 0 through the map in order. The first map entry that holds
+-- the block settles its place; nothing after it is consulted." A map is the list of its words, as in BlockMap.
+use Prim.Native.Nat.{ℕ, _+_, _-_, _*_, _/_, min}
+use mathlib.Core.Bool.{Bool, false, cond, _&&_}
+use mathlib.Core.List.{List, [], _∷_}
+use lib.Dec.{leb, ltb}
+use Rattle.block_service.specs.declared.blocks.Place.{Place}
+use Rattle.block_service.specs.declared.blocks.Place.the-variants.{At, Missing}
+
+-- the place of the block b blocks on, in entries of which the first is number e and starts at byte s: the entry, the block's first
+-- byte and length, and the number of blocks from it to the end of the entry
+unfoldable pub placeFrom : List ℕ → ℕ → ℕ → ℕ → Place
+placeFrom [] e s b = Missing
+placeFrom (count ∷ []) e s b = Missing
+placeFrom (count ∷ len ∷ rest) e s b =
+    let later = placeFrom rest (e + 1) (s + count * len) (b - count) in
+    cond (ltb b count) (At e (s + b * len) len (count - b)) later
+
+-- the place of block b
+unfoldable pub place : List ℕ → ℕ → Place
+place map b = placeFrom map 0 0 b
+
+-- a place's first byte, length, and number of blocks to the end of the entry; 0 where there is no such block
+unfoldable pub startOf : Place → ℕ
+startOf (At e s l r) = s
+startOf Missing = 0
+
+unfoldable pub lengthOf : Place → ℕ
+lengthOf (At e s l r) = l
+lengthOf Missing = 0
+
+unfoldable pub leftOf : Place → ℕ
+leftOf (At e s l r) = r
+leftOf Missing = 0
+
+-- byte i lies in the place
+unfoldable pub holds : Place → ℕ → Bool
+holds (At e s l r) i = leb s i && ltb i (s + l)
+holds Missing i = false
+
+-- byte i of the volume lies in block b
+unfoldable pub inBlock : List ℕ → ℕ → ℕ → Bool
+inBlock map b i = holds (place map b) i
+
+-- the number of the block in which byte i lies; past the last block, the number of blocks
+unfoldable pub blockAt : List ℕ → ℕ → ℕ
+blockAt [] i = 0
+blockAt (count ∷ []) i = 0
+blockAt (count ∷ len ∷ rest) i =
+    let later = blockAt rest (i - count * len) in
+    cond (ltb i (count * len)) (i / len) (count + later)
+
+-- private to the code's contracts (the end of an erase run): the first byte of block b; past the last block, the end of the last
+unfoldable pub firstByte : List ℕ → ℕ → ℕ
+firstByte [] b = 0
+firstByte (count ∷ []) b = 0
+firstByte (count ∷ len ∷ rest) b = min b count * len + firstByte rest (b - count)

@@ -1,0 +1,31 @@
+-- Erasing (document 01, "Erase"). The list is a list of 64-bit words: "pairs of first block and count, ended by 2^64 - 1 where a first
+-- block would stand. Words after that are ignored."
+use Prim.Native.Nat.{ℕ, _+_}
+use mathlib.Core.Bool.{Bool, false, not, cond, _&&_, _||_}
+use mathlib.Core.List.{List, [], _∷_}
+use lib.Dec.{eqb, leb, ltb}
+use Rattle.volume.specs.Attributes.{flag, erasePolarity}
+
+-- the terminator, 2^64 - 1
+abbrev pub endOfList : ℕ
+endOfList = 0xFFFFFFFFFFFFFFFF
+
+-- the list is good for n blocks: it has its terminator, and before it no count is 0 and no pair's true sum passes n
+unfoldable pub goodList : ℕ → List ℕ → Bool
+goodList n [] = false
+goodList n (first ∷ []) = eqb first endOfList
+goodList n (first ∷ count ∷ rest) =
+    let later = goodList n rest in
+    eqb first endOfList || (not (eqb count 0) && (leb (first + count) n && later))
+
+-- the list names block b: a pair before the terminator covers it
+unfoldable pub names : List ℕ → ℕ → Bool
+names [] b = false
+names (first ∷ []) b = false
+names (first ∷ count ∷ rest) b =
+    let later = names rest b in
+    not (eqb first endOfList) && (leb first b && ltb b (first + count) || later)
+
+-- an erased byte: every bit has the erase value
+unfoldable pub erasedByte : ℕ → ℕ
+erasedByte attributes = cond (flag attributes erasePolarity) 0xFF 0x00

@@ -1,0 +1,5 @@
+pub mod Access
+pub mod Blocks
+pub mod Erase
+pub mod Service
+pub mod Settings

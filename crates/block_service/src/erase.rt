@@ -1,0 +1,124 @@
+// Erasing the blocks that a list names.
+ghost use mathlib.Core.Bool.{true, cond, _&&_};
+ghost use mathlib.Core.Path.{_≡_};
+ghost use Prim.Native.Nat.{_+_, _≤_, _<_};
+ghost use lib.Dec.{leb, ltb};
+ghost use lib.ListN.{length};
+ghost use Rattle.volume.specs.BlockMap.{blocks, bytes, maxBlocks, maxLength};
+ghost use Rattle.block_service.specs.Blocks.{blockAt};
+ghost use Rattle.block_service.specs.Erase.{goodList, names, erasedByte};
+ghost use Rattle.block_service.specs.Service.{edit};
+use crate::attributes::ERASE_POLARITY;
+use crate::blocks::Place;
+use crate::blocks::block_count;
+use crate::blocks::find_block;
+use crate::blocks::run_end;
+
+// The word that ends an erase list, where a first block would stand.
+pub const END_OF_LIST: u64 = 0xFFFFFFFFFFFFFFFF;
+
+// Erases the blocks that a list names, and says so, where the list is good; otherwise no byte changes. The whole
+// list is verified before a byte is stored.
+pub(crate) fn erase_good(words: &[u32], volume: &mut [u8], list: &[u64], value: u8) -> bool
+    requires { ⌜ blocks (now words) ≤ maxBlocks ⌝ }
+    requires { ⌜ bytes (now words) ≤ maxLength ⌝ }
+    requires { ⌜ bytes (now words) ≤ length (now volume) ⌝ }
+    ensures { λ r. ⌜ r ≡ goodList (blocks (now (words .entry))) (now (list .entry)) ⌝ }
+    ensures { λ r. ⌜ now (volume .exit) ≡ cond r (edit (λ i old. cond (names (now (list .entry)) (blockAt (now (words .entry)) i)) value old) 0 (now (volume .entry))) (now (volume .entry)) ⌝ }
+{
+    let total = block_count(words);
+    if good_list(total as u64, list) {
+        erase_list(words, volume, list, value);
+        return true;
+    }
+    false
+}
+
+// Whether an erase list is good for so many blocks. The sum of first block and count is never formed, so
+// that it cannot wrap.
+fn good_list(total: u64, list: &[u64]) -> bool
+    ensures { λ r. ⌜ r ≡ goodList total (now (list .entry)) ⌝ }
+{
+    let mut i = 0;
+    while i < list.len() {
+        let first = list[i];
+        if first == END_OF_LIST {
+            return true;
+        }
+        if list.len() - i < 2 {
+            return false;
+        }
+        let count = list[i + 1];
+        if count == 0 {
+            return false;
+        }
+        if total <= first {
+            return false;
+        }
+        if total - first < count {
+            return false;
+        }
+        i += 2;
+    }
+    false
+}
+
+// Erases the blocks that a good list names.
+fn erase_list(words: &[u32], volume: &mut [u8], list: &[u64], value: u8)
+    requires { ⌜ bytes (now words) ≤ maxLength ⌝ }
+    requires { ⌜ bytes (now words) ≤ length (now volume) ⌝ }
+    requires { ⌜ goodList (blocks (now words)) (now list) ≡ true ⌝ }
+    ensures { λ _. ⌜ now (volume .exit) ≡ edit (λ i old. cond (names (now (list .entry)) (blockAt (now (words .entry)) i)) value old) 0 (now (volume .entry)) ⌝ }
+{
+    let mut i = 0;
+    while i < list.len() {
+        let first = list[i];
+        if first == END_OF_LIST {
+            return;
+        }
+        erase_run(words, volume, first, list[i + 1], value);
+        i += 2;
+    }
+}
+
+// Erases `count` blocks from the first on: one map scan, and one fill of their bytes.
+fn erase_run(words: &[u32], volume: &mut [u8], first: u64, count: u64, value: u8)
+    requires { ⌜ bytes (now words) ≤ maxLength ⌝ }
+    requires { ⌜ bytes (now words) ≤ length (now volume) ⌝ }
+    requires { ⌜ (0 < count) × (first + count ≤ blocks (now words)) ⌝ }
+    ensures { λ _. ⌜ now (volume .exit) ≡ edit (λ i old. cond (leb first (blockAt (now (words .entry)) i) && ltb (blockAt (now (words .entry)) i) (first + count)) value old) 0 (now (volume .entry)) ⌝ }
+{
+    let found = find_block(words, first);
+    let Place::At {
+        entry,
+        start,
+        len: _,
+        left,
+    } = found
+    else {
+        return;
+    };
+    let end = run_end(words, entry, start, left, count as usize);
+    fill(&mut volume[start..end], value);
+}
+
+// Makes each byte of the part the value.
+fn fill(part: &mut [u8], value: u8)
+    ensures { λ _. ⌜ now (part .exit) ≡ edit (λ i old. value) 0 (now (part .entry)) ⌝ }
+{
+    let mut i = 0;
+    while i < part.len() {
+        part[i] = value;
+        i += 1;
+    }
+}
+
+// The byte whose every bit has the erase value.
+pub(crate) fn erased_byte(attributes: u32) -> u8
+    ensures { λ r. ⌜ r ≡ erasedByte attributes ⌝ }
+{
+    if attributes / ERASE_POLARITY % 2 == 1 {
+        return 0xFF;
+    }
+    0x00
+}

@@ -1,0 +1,234 @@
+// The block service: the seven calls over a state and the volume bytes that the caller lends.
+//
+// Every call answers every state and every argument. The answer, the state afterwards, and the whole
+// contents of the volume and of the reader's buffer afterwards are those of `step` in specs/Service. A call
+// costs a test of the state (passes over at most 32 map entries), a scan of the map for each block or erase
+// pair that it names, and the bytes that it moves.
+ghost use mathlib.Core.List.{List, []};
+ghost use mathlib.Core.Path.{_≡_};
+ghost use Prim.Native.Nat.{ℕ};
+ghost use Rattle.block_service.specs.Service.{step, result, settingsAnswer, addressAnswer, blockSizeAnswer, movedAnswer, erasedAnswer};
+ghost use Rattle.block_service.specs.Service.{getAttributes, setAttributes, getPhysicalAddress, getBlockSize, eraseBlocks};
+ghost use Rattle.block_service.specs.Service as Calls;
+use crate::access::count_moved;
+use crate::access::load;
+use crate::access::moved;
+use crate::access::store;
+use crate::attributes::MEMORY_MAPPED;
+use crate::attributes::READ_STATUS;
+use crate::attributes::WRITE_STATUS;
+use crate::blocks::Place;
+use crate::blocks::locate;
+use crate::erase::erase_good;
+use crate::erase::erased_byte;
+use crate::settings::changes_fixed;
+use crate::settings::changes_locked;
+use crate::settings::lacks_capability;
+use crate::state::State;
+use crate::state::unlawful_state;
+
+// Settings, as they are or as they were set.
+pub enum Settings {
+    Success(u32),
+    Refused(u16),
+}
+
+// What setting the settings answers, and the state afterwards.
+pub struct NewSettings {
+    pub answer: Settings,
+    pub state: State,
+}
+
+// The address at which the volume is mapped.
+pub enum Address {
+    Success(u64),
+    Refused(u16),
+}
+
+// A block's length, and the number of blocks from it to the end of its map entry, itself included.
+pub enum BlockSize {
+    Success { length: usize, count: usize },
+    Refused(u16),
+}
+
+// The number of bytes that a read or a write moved: all of them, or fewer (document 01's answer 4).
+pub enum Moved {
+    Success(usize),
+    Short(usize),
+    Refused(u16),
+}
+
+// Whether the blocks of a list were erased.
+pub enum Erased {
+    Success,
+    Refused(u16),
+}
+
+// Reads the settings. Refused with 111.
+pub fn get_attributes(st: State) -> Settings
+    ensures { λ r. ⌜ ((v : List ℕ) → result (settingsAnswer r) st v [] ≡ step st v getAttributes) ⌝ }
+{
+    if unlawful_state(st) {
+        return Settings::Refused(111);
+    }
+    Settings::Success(st.attributes)
+}
+
+// Sets the settings, and answers them with the state that holds them. Refused with 111; with 2 where a bit
+// changes that may not; with 15 where the settings are locked and any bit changes; with 2 where a change lacks
+// its capability. Nothing is stored in the volume.
+pub fn set_attributes(st: State, new: u32) -> NewSettings
+    ensures { λ r. ⌜ ((v : List ℕ) → result (settingsAnswer (r .answer)) (r .state) v [] ≡ step st v (setAttributes new)) ⌝ }
+{
+    if unlawful_state(st) {
+        return NewSettings {
+            answer: Settings::Refused(111),
+            state: st,
+        };
+    }
+    let old = st.attributes;
+    if changes_fixed(old, new) {
+        return NewSettings {
+            answer: Settings::Refused(2),
+            state: st,
+        };
+    }
+    if changes_locked(old, new) {
+        return NewSettings {
+            answer: Settings::Refused(15),
+            state: st,
+        };
+    }
+    if lacks_capability(old, new) {
+        return NewSettings {
+            answer: Settings::Refused(2),
+            state: st,
+        };
+    }
+    let mut next = st;
+    next.attributes = new;
+    NewSettings {
+        answer: Settings::Success(new),
+        state: next,
+    }
+}
+
+// The address of a memory-mapped volume. Refused with 111, or 3 where it is not mapped.
+pub fn get_physical_address(st: State) -> Address
+    ensures { λ r. ⌜ ((v : List ℕ) → result (addressAnswer r) st v [] ≡ step st v getPhysicalAddress) ⌝ }
+{
+    if unlawful_state(st) {
+        return Address::Refused(111);
+    }
+    if st.attributes / MEMORY_MAPPED % 2 != 1 {
+        return Address::Refused(3);
+    }
+    Address::Success(st.base)
+}
+
+// A block's length, and the number of blocks from it to the end of its map entry. Refused with 111, or 2 where
+// there is no such block.
+pub fn get_block_size(st: State, block: u64) -> BlockSize
+    ensures { λ r. ⌜ ((v : List ℕ) → result (blockSizeAnswer r) st v [] ≡ step st v (getBlockSize block)) ⌝ }
+{
+    if unlawful_state(st) {
+        return BlockSize::Refused(111);
+    }
+    let found = locate(st, block);
+    let Place::At {
+        entry: _,
+        start: _,
+        len,
+        left,
+    } = found
+    else {
+        return BlockSize::Refused(2);
+    };
+    BlockSize::Success {
+        length: len,
+        count: left,
+    }
+}
+
+// Reads from an offset of a block into the start of the buffer; the rest of the buffer stays. Refused with 111, 5, 15
+// (reads are disabled) or 2 (no such block), and then the whole buffer stays.
+pub fn read(st: State, volume: &[u8], block: u64, offset: usize, buffer: &mut [u8]) -> Moved
+    ensures { λ r. ⌜ result (movedAnswer r) st (now (volume .entry)) (now (buffer .exit)) ≡ step st (now (volume .entry)) (Calls.read block offset (now (buffer .entry))) ⌝ }
+{
+    if unlawful_state(st) {
+        return Moved::Refused(111);
+    }
+    if (volume.len() as u64) < st.length {
+        return Moved::Refused(5);
+    }
+    if st.attributes / READ_STATUS % 2 != 1 {
+        return Moved::Refused(15);
+    }
+    let found = locate(st, block);
+    let Place::At {
+        entry: _,
+        start,
+        len,
+        left: _,
+    } = found
+    else {
+        return Moved::Refused(2);
+    };
+    let n = buffer.len();
+    let count = count_moved(len, offset, n);
+    load(volume, start, offset, buffer, count);
+    moved(count, n)
+}
+
+// Writes the data from an offset of a block on, by the volume's write rule; no byte outside that stretch of the block
+// changes. Refused with 111, 5, 15 (writes are disabled) or 2 (no such block), and then no byte changes.
+pub fn write(st: State, volume: &mut [u8], block: u64, offset: usize, new: &[u8]) -> Moved
+    ensures { λ r. ⌜ result (movedAnswer r) st (now (volume .exit)) [] ≡ step st (now (volume .entry)) (Calls.write block offset (now (new .entry))) ⌝ }
+{
+    if unlawful_state(st) {
+        return Moved::Refused(111);
+    }
+    if (volume.len() as u64) < st.length {
+        return Moved::Refused(5);
+    }
+    if st.attributes / WRITE_STATUS % 2 != 1 {
+        return Moved::Refused(15);
+    }
+    let found = locate(st, block);
+    let Place::At {
+        entry: _,
+        start,
+        len,
+        left: _,
+    } = found
+    else {
+        return Moved::Refused(2);
+    };
+    let n = new.len();
+    let count = count_moved(len, offset, n);
+    store(st.attributes, volume, start, offset, new, count);
+    moved(count, n)
+}
+
+// Erases the blocks that a list names: pairs of first block and count, ended by END_OF_LIST. Refused with 111, 5, 15
+// (writes are disabled) or 2 (a bad list). The whole list is verified before a byte is stored, so that a refusal
+// changes none. Costs the list and, for each pair, a map scan and the bytes of its blocks.
+pub fn erase_blocks(st: State, volume: &mut [u8], list: &[u64]) -> Erased
+    ensures { λ r. ⌜ result (erasedAnswer r) st (now (volume .exit)) [] ≡ step st (now (volume .entry)) (eraseBlocks (now (list .entry))) ⌝ }
+{
+    if unlawful_state(st) {
+        return Erased::Refused(111);
+    }
+    if (volume.len() as u64) < st.length {
+        return Erased::Refused(5);
+    }
+    if st.attributes / WRITE_STATUS % 2 != 1 {
+        return Erased::Refused(15);
+    }
+    let map = st.map;
+    let end = 2 * st.entries;
+    if erase_good(&map[..end], volume, list, erased_byte(st.attributes)) {
+        return Erased::Success;
+    }
+    Erased::Refused(2)
+}

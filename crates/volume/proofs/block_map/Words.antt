@@ -1,0 +1,137 @@
+-- Laws of a block map's words: one entry at a time, for the loops over them, and what breaks rule 107.
+use Prim.Native.Nat.{ℕ, zero, suc, _+_, _*_, _≤_, _<_, _^_}
+use mathlib.Core.Path.{_≡_, refl}
+use mathlib.Core.Bool.{Bool, true, false, not, _&&_, _||_, or-true, and-true, and-assoc}
+use mathlib.Core.List.{List}
+use native.Mathlib.Nat.{mul-le-mul, mul-zero, zero-mul, suc-mul, pos-of-ne-zero}
+use native.Mathlib.Numerals.{add-one}
+use native.Mathlib.Omega.{arith}
+use borrow.Author.Tests.{lt-ltb, le-ltb, eq-eqb, ne-eqb, ltb-false, eqb-true, eqb-false, not-false}
+use lib.Bits.{bitOr, or-zero-l, or-add-and, and-le-r}
+use lib.Dec.{eqb, ltb}
+use lib.ListN.{length, getD, drop, drop-of-length-le}
+use lib.Seq.{drop-cons}
+use Rattle.common.specs.Refusals.{any}
+use Rattle.common.proofs.Lists.{drop-two}
+use Rattle.common.proofs.Refusals.{any-passed}
+use Rattle.volume.specs.BlockMap.{maxEntries, maxBlocks, maxLength, headerLength, blocks, bytes, hasZero, allZero, sizeFault}
+
+-- the entry at place i gives its count of blocks, and its count times its length of bytes
+pub blocks-entry : (w : List ℕ) (i : ℕ) → 2 * i + 1 < length w → blocks (drop (2 * i) w) ≡ getD w (2 * i) 0 + blocks (drop (2 * (i + 1)) w)
+unfolding blocks
+blocks-entry w i h = let e : 2 * (i + 1) ≡ 2 * i + 2 = omega arith in rw (e, drop-two w (2 * i) h)
+
+pub bytes-entry : (w : List ℕ) (i : ℕ) → 2 * i + 1 < length w
+    → bytes (drop (2 * i) w) ≡ getD w (2 * i) 0 * getD w (2 * i + 1) 0 + bytes (drop (2 * (i + 1)) w)
+unfolding bytes
+bytes-entry w i h = let e : 2 * (i + 1) ≡ 2 * i + 2 = omega arith in rw (e, drop-two w (2 * i) h)
+
+-- past the last entry there are none
+pub blocks-end : (w : List ℕ) (i : ℕ) → length w ≤ 2 * i → blocks (drop (2 * i) w) ≡ 0
+unfolding blocks
+blocks-end w i h = rw (drop-of-length-le w {i = 2 * i} h)
+
+pub bytes-end : (w : List ℕ) (i : ℕ) → length w ≤ 2 * i → bytes (drop (2 * i) w) ≡ 0
+unfolding bytes
+bytes-end w i h = rw (drop-of-length-le w {i = 2 * i} h)
+
+-- a product of two 32-bit numbers fits 64 bits
+pub product-fits : (a b : ℕ) → a < 2 ^ 32 → b < 2 ^ 32 → a * b < 2 ^ 64
+product-fits a b ha hb = omega (arith, mul-le-mul {n₁ = a} {m₁ = b} {n₂ = 4294967295} {m₂ = 4294967295} (omega arith) (omega arith))
+
+-- the entry at place i has a zero word exactly where its size is 0
+pub zero-size : (w : List ℕ) (i : ℕ) → 2 * i + 1 < length w → getD w (2 * i) 0 * getD w (2 * i + 1) 0 ≡ 0 → hasZero (drop (2 * i) w) ≡ true
+unfolding hasZero
+zero-size w i h e = rw (drop-two w (2 * i) h) (go (getD w (2 * i) 0) (getD w (2 * i + 1) 0) e)
+  where
+    go : (a b : ℕ) → a * b ≡ 0 → (eqb a 0 || (eqb b 0 || hasZero (drop (2 * i + 2) w))) ≡ true
+    go zero b e = refl
+    go (suc a) zero e = or-true (eqb (suc a) 0)
+    go (suc a) (suc b) e = absurd (omega (arith, e, suc-mul a (suc b)))
+
+pub nonzero-size : (w : List ℕ) (i : ℕ) → 2 * i + 1 < length w → (getD w (2 * i) 0 * getD w (2 * i + 1) 0 ≡ 0 → ⊥)
+    → hasZero (drop (2 * i) w) ≡ hasZero (drop (2 * (i + 1)) w)
+unfolding hasZero
+nonzero-size w i h e =
+    let two : 2 * (i + 1) ≡ 2 * i + 2 = omega arith in
+    rw (two, drop-two w (2 * i) h) (go (getD w (2 * i) 0) (getD w (2 * i + 1) 0) e)
+  where
+    go : (a b : ℕ) → (a * b ≡ 0 → ⊥) → (eqb a 0 || (eqb b 0 || hasZero (drop (2 * i + 2) w))) ≡ hasZero (drop (2 * i + 2) w)
+    go zero b e = absurd (e (zero-mul b))
+    go (suc a) zero e = absurd (e (mul-zero (suc a)))
+    go (suc a) (suc b) e = rw (ne-eqb (suc a) 0 (λ z. omega arith), ne-eqb (suc b) 0 (λ z. omega arith))
+
+-- a zero word, or a total that breaks rule 107: the tests that are left to a walk over the entries
+abbrev pub Totals : List ℕ → ℕ → Bool
+Totals w len = hasZero w || (ltb maxBlocks (blocks w) || not (eqb (bytes w) len))
+
+pub zero-word : (w : List ℕ) (len : ℕ) → hasZero w ≡ true → true ≡ Totals w len
+zero-word w len h = rw h
+
+pub too-many : (w : List ℕ) (len : ℕ) → maxBlocks < blocks w → true ≡ Totals w len
+too-many w len h = rw (lt-ltb maxBlocks (blocks w) h, or-true)
+
+pub too-long : (w : List ℕ) (len : ℕ) → len < bytes w → true ≡ Totals w len
+too-long w len h = rw (ne-eqb (bytes w) len (λ e. omega arith), or-true, or-true)
+
+pub totals-end : (w : List ℕ) (len b : ℕ) → hasZero w ≡ false → blocks w ≤ maxBlocks → bytes w ≡ b → not (eqb b len) ≡ Totals w len
+totals-end w len b z h e = rw (z, le-ltb maxBlocks (blocks w) h, e)
+
+-- what a map that passes rule 107 is known to be
+pub record Sized (n : ℕ) (w : List ℕ) (len : ℕ) : Type 0 where
+  pub some-entry : 1 ≤ n
+  pub few-entries : n ≤ maxEntries
+  pub few-blocks : blocks w ≤ maxBlocks
+  pub short : len ≤ maxLength
+  pub total : bytes w ≡ len
+  pub holds-header : headerLength n ≤ len
+
+pub size-passed : (n : ℕ) (w : List ℕ) (len : ℕ) → sizeFault n w len ≡ false → Sized n w len
+unfolding sizeFault
+size-passed n w len e =
+    let a = any-passed (eqb n 0) _ e in
+    let b = any-passed (ltb maxEntries n) _ (a .1) in
+    let d = any-passed (ltb maxBlocks (blocks w)) _ (b .1) in
+    let f = any-passed (ltb maxLength len) _ (d .1) in
+    let g = any-passed (not (eqb (bytes w) len)) _ (f .1) in
+    let h = any-passed (ltb len (headerLength n)) _ (g .1) in
+    record {
+      some-entry = pos-of-ne-zero (eqb-false n 0 (a .0));
+      few-entries = ltb-false maxEntries n (b .0);
+      few-blocks = ltb-false maxBlocks (blocks w) (d .0);
+      short = ltb-false maxLength len (f .0);
+      total = eqb-true (bytes w) len (not-false _ (g .0));
+      holds-header = ltb-false len (headerLength n) (h .0);
+    }
+
+-- too many entries break rule 107
+pub too-many-entries : (n : ℕ) (w : List ℕ) (len : ℕ) → maxEntries < n → sizeFault n w len ≡ true
+unfolding sizeFault any
+too-many-entries n w len h = rw (lt-ltb maxEntries n h, or-true)
+
+pub hasZero-here : (w : List ℕ) (i : ℕ) → i < length w → getD w i 0 ≡ 0 → true ≡ hasZero (drop i w)
+unfolding hasZero
+hasZero-here w i h z = rw (drop-cons w i 0 h, z)
+
+pub hasZero-next : (w : List ℕ) (i : ℕ) → i < length w → (getD w i 0 ≡ 0 → ⊥) → hasZero (drop i w) ≡ hasZero (drop (i + 1) w)
+unfolding hasZero
+hasZero-next w i h z = rw (add-one, drop-cons w i 0 h, ne-eqb (getD w i 0) 0 z)
+
+pub hasZero-end : (w : List ℕ) (i : ℕ) → length w ≤ i → false ≡ hasZero (drop i w)
+unfolding hasZero
+hasZero-end w i h = rw (drop-of-length-le w {i = i} h)
+
+-- words gathered by OR: nothing is gathered exactly where every word passed is zero
+gathered-zero : (a b : ℕ) → eqb (bitOr a b) 0 ≡ (eqb a 0 && eqb b 0)
+gathered-zero zero b = rw (or-zero-l b)
+gathered-zero (suc a) b =
+    rw (ne-eqb (suc a) 0 (λ z. omega arith)) (ne-eqb (bitOr (suc a) b) 0 (λ e. omega (arith, or-add-and (suc a) b, and-le-r (suc a) b)))
+
+pub gathered-next : (w : List ℕ) (i g : ℕ) → i < length w
+    → (eqb (bitOr g (getD w i 0)) 0 && allZero (drop (i + 1) w)) ≡ (eqb g 0 && allZero (drop i w))
+unfolding allZero
+gathered-next w i g h = rw (add-one, drop-cons w i 0 h, gathered-zero g (getD w i 0), and-assoc)
+
+pub gathered-end : (w : List ℕ) (i g : ℕ) → length w ≤ i → (eqb g 0 && allZero (drop i w)) ≡ eqb g 0
+unfolding allZero
+gathered-end w i g h = rw (drop-of-length-le w {i = i} h, and-true)

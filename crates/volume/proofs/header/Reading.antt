@@ -1,0 +1,215 @@
+-- What opening depends on, and when it succeeds.
+use Prim.Native.Nat.{ℕ, zero, suc, _+_, _-_, _*_, _/_, _%_, _≤_, _<_}
+use mathlib.Core.Path.{_≡_, refl, sym, ap, ap₂, _∙_}
+use mathlib.Core.Bool.{Bool, true, false, _||_}
+use mathlib.Core.List.{List, _∷_}
+use mathlib.Core.Option.{Option, none, some}
+use native.Mathlib.Omega.{arith}
+use borrow.Author.Tests.{le-ltb, eq-eqb, ne-eqb, ltb-false}
+use lib.Dec.{eqb}
+use lib.ListN.{length, getD, take, drop, replicate, length-take, length-drop}
+use lib.Seq.{ext-getD, getD-take, getD-drop, take-at, drop-at}
+use Rattle.common.specs.Refusals.{firstRefusal, any}
+use Rattle.common.proofs.Refusals.{row-passed, then-passed, then-refused, front-passed}
+use Rattle.numbers.specs.LittleEndian.{le}
+use Rattle.numbers.proofs.LittleEndian.{le-same}
+use Rattle.volume.specs.Attributes.{attributesFault, baseFault}
+use Rattle.volume.specs.BlockMap.{hasZero, allZero, sizeFault}
+use Rattle.volume.specs.State.{stateWith, stateOf, zeroState, mapOf, unlawful}
+use Rattle.volume.specs.Header.{signature, headerLengthAt, wordsAt, wordSum, stateAt, headerLengthFault, mapFault, openRefusals, answered, stateBeside, openVolume}
+use Rattle.volume.specs.declared.state.State.{State}
+use Rattle.volume.specs.declared.header.Opening.the-variants as Opening
+use Rattle.volume.specs.declared.header.Opened.{Opened}
+use Rattle.volume.proofs.header.Fields.{bytesRefusals, fieldsRefusals, rows-split, answered-success, length-wordsAt, readable, open-success}
+use Rattle.volume.proofs.block_map.Words.{size-passed}
+
+-- two byte strings agree from place a up to place b
+abbrev pub Agree : List ℕ → List ℕ → ℕ → ℕ → Type 0
+Agree v w a b = (i : ℕ) → a ≤ i → i < b → getD v i 0 ≡ getD w i 0
+
+wordsAt-same : (k : ℕ) (v w : List ℕ) (at : ℕ) → Agree v w at (at + 4 * k) → wordsAt k v at ≡ wordsAt k w at
+unfolding wordsAt
+wordsAt-same zero v w at h = refl
+wordsAt-same (suc k) v w at h =
+    ap₂ (λ (x : ℕ) (l : List ℕ). x ∷ l) (le-same 4 v w at (λ i p q. h i p (omega arith)))
+    (wordsAt-same k v w (at + 4) (λ i p q. h i (omega arith) (omega arith)))
+
+-- equal parts of lists of one length
+take-same : (v w : List ℕ) (n at : ℕ) → length v ≡ length w → Agree v w at (at + n) → take n (drop at v) ≡ take n (drop at w)
+take-same v w n at e h =
+    ext-getD 0 (take n (drop at v)) (take n (drop at w)) (simp (length-take, length-drop, e))
+    (λ i p. let q : i < n = omega (arith, rw (length-take n (drop at v)) at p) in
+    getD-take n (drop at v) i 0 q ∙ getD-drop at v i 0 ∙ h (at + i) (omega arith) (omega arith) ∙ sym (getD-drop at w i 0) ∙ sym (getD-take n (drop at w) i 0 q))
+
+-- Opening reads the lent length, the base, bytes 16 to 49, and from byte 55 on the header's; of the zero vector, the checksum and the
+-- reserved bytes it sees only whether the words sum to 0.
+module _ (v w : List ℕ) (base : ℕ) (e : length v ≡ length w) (front : Agree v w 16 50) (least : Agree v w 55 72)
+    (back : Agree v w 55 (headerLengthAt v)) where
+  pub same-header-length : headerLengthAt v ≡ headerLengthAt w
+  same-header-length = le-same 2 v w 48 (λ i p q. front i (omega arith) (omega arith))
+
+  -- the rows before the sum's
+  same-start : take 4 (openRefusals v zeroState) ≡ take 4 (openRefusals w zeroState)
+  unfolding openRefusals
+  same-start =
+      let sign : le 4 v 40 ≡ le 4 w 40 = le-same 4 v w 40 (λ i p q. front i (omega arith) (omega arith)) in
+      let revised : getD v 55 0 ≡ getD w 55 0 = least 55 (omega arith) (omega arith) in
+      rw (e, sign, revised, same-header-length)
+
+  same-state : stateAt v base ≡ stateAt w base
+  unfolding stateAt
+  same-state =
+      let guid : take 16 (drop 16 v) ≡ take 16 (drop 16 w) = take-same v w 16 16 e (λ i p q. front i (omega arith) (omega arith)) in
+      let len : le 8 v 32 ≡ le 8 w 32 = le-same 8 v w 32 (λ i p q. front i (omega arith) (omega arith)) in
+      let attributes : le 4 v 44 ≡ le 4 w 44 = le-same 4 v w 44 (λ i p q. front i (omega arith) (omega arith)) in
+      let n : ℕ = (headerLengthAt v - 64) / 8 in
+      let map : wordsAt (2 * n) v 56 ≡ wordsAt (2 * n) w 56 = wordsAt-same (2 * n) v w 56 (λ i p q. back i (omega arith) (omega arith)) in
+      rw (guid, len, attributes, map, same-header-length)
+
+  same-fields : 72 ≤ headerLengthAt v → (st : State) → fieldsRefusals v st ≡ fieldsRefusals w st
+  unfolding openRefusals mapFault
+  same-fields h st =
+      let closing : le 8 v (headerLengthAt v - 8) ≡ le 8 w (headerLengthAt v - 8) =
+      le-same 8 v w (headerLengthAt v - 8) (λ i p q. back i (omega arith) (omega arith)) in
+      rw (closing, same-header-length, e)
+
+  abbrev Zero : List ℕ → Bool
+  Zero s = eqb (wordSum (take (headerLengthAt v) s) % 65536) 0
+
+  same-bytes : Zero v ≡ Zero w → bytesRefusals v ≡ bytesRefusals w
+  unfolding openRefusals
+  same-bytes sums =
+      let sign : le 4 v 40 ≡ le 4 w 40 = le-same 4 v w 40 (λ i p q. front i (omega arith) (omega arith)) in
+      let revised : getD v 55 0 ≡ getD w 55 0 = least 55 (omega arith) (omega arith) in
+      rw (e, sign, revised, sums, same-header-length)
+
+  -- where the sums of both are 0, or of neither, opening answers the same
+  pub open-same : Zero v ≡ Zero w → openVolume v base ≡ openVolume w base
+  unfolding openVolume answered stateBeside
+  open-same sums = go (firstRefusal (bytesRefusals v)) refl
+    where
+      go : (o : Option ℕ) → firstRefusal (bytesRefusals v) ≡ o → openVolume v base ≡ openVolume w base
+      go (some n) p =
+          rw (
+            rows-split v (stateAt v base),
+            rows-split w (stateAt w base),
+            then-refused (bytesRefusals v) (fieldsRefusals v (stateAt v base)) n p,
+            then-refused (bytesRefusals w) (fieldsRefusals w (stateAt w base)) n (ap firstRefusal (sym (same-bytes sums)) ∙ p),
+          )
+      go none p = rw (same-state, rows-split v (stateAt w base), rows-split w (stateAt w base), same-bytes sums, same-fields (readable v p .least))
+
+  -- where the sum of the one is 0 and it opens, and that of the other is not, the other is refused with 105
+  pub sum-decides : openVolume v base .answer ≡ Opening.Success → (wordSum (take (headerLengthAt v) w) % 65536 ≡ 0 → ⊥)
+      → openVolume w base .answer ≡ Opening.Refused 105
+  unfolding openVolume openRefusals firstRefusal answered
+  sum-decides opens off =
+      let passed : firstRefusal (take 4 (openRefusals v zeroState)) ≡ none =
+      front-passed (take 4 (openRefusals v (stateAt v base))) (drop 4 (openRefusals v (stateAt v base)))
+      (answered-success (firstRefusal (openRefusals v (stateAt v base))) opens) in
+      let here : firstRefusal (drop 4 (openRefusals w (stateAt w base))) ≡ some 105 =
+      rw (ne-eqb (wordSum (take (headerLengthAt w) w) % 65536) 0 (λ z. off (rw same-header-length z))) in
+      ap answered
+      (then-passed (take 4 (openRefusals w (stateAt w base))) (drop 4 (openRefusals w (stateAt w base))) (ap firstRefusal (sym same-start) ∙ passed) ∙ here)
+
+-- opening depends on the header's bytes, the lent length and the base only
+pub header-only : (v w : List ℕ) (base : ℕ) → length v ≡ length w → Agree v w 0 72 → Agree v w 0 (headerLengthAt v) → openVolume v base ≡ openVolume w base
+header-only v w base e least whole =
+    open-same v w base e (λ i p q. least i (omega arith) (omega arith)) (λ i p q. least i (omega arith) q) (λ i p q. whole i (omega arith) q)
+    (ap (λ (l : List ℕ). eqb (wordSum l % 65536) 0) (take-same v w (headerLengthAt v) 0 e (λ i p q. whole i p (omega arith))))
+
+-- nonzero reserved bytes and zero vector change nothing but the sum: two byte strings that agree in all else, each with a checksum
+-- that brings its words to 0, open alike; `sum-decides` is the other half
+pub reserved-ignored : (v w : List ℕ) (base : ℕ) → length v ≡ length w → Agree v w 16 50 → Agree v w 55 72 → Agree v w 55 (headerLengthAt v)
+    → wordSum (take (headerLengthAt v) v) % 65536 ≡ 0 → wordSum (take (headerLengthAt v) w) % 65536 ≡ 0 → openVolume v base ≡ openVolume w base
+reserved-ignored v w base e front least back p q = open-same v w base e front least back (rw (p, q))
+
+-- what a volume's bytes must hold to open to these values
+pub record Holds (v guid : List ℕ) (len a n : ℕ) (words : List ℕ) : Type 0 where
+  pub lent : len ≤ length v
+  pub signed : le 4 v 40 ≡ signature
+  pub revised : getD v 55 0 ≡ 1
+  pub header : headerLengthAt v ≡ 64 + 8 * n
+  pub summed : wordSum (take (64 + 8 * n) v) % 65536 ≡ 0
+  pub guid-there : take 16 (drop 16 v) ≡ guid
+  pub length-there : le 8 v 32 ≡ len
+  pub attributes-there : le 4 v 44 ≡ a
+  pub map-there : wordsAt (2 * n) v 56 ≡ words
+  pub closed : le 8 v (64 + 8 * n - 8) ≡ 0
+
+header-length-good : (h lent : ℕ) → h % 8 ≡ 0 → 72 ≤ h → h ≤ 320 → h ≤ lent → headerLengthFault h lent ≡ false
+unfolding headerLengthFault any
+header-length-good h lent a b d e = rw (eq-eqb (h % 8) 0 a, le-ltb h 72 b, le-ltb 320 h d, le-ltb lent h e)
+
+-- the map of a state made of n entries' words
+pub mapOf-stateOf : (guid : List ℕ) (len a base n : ℕ) (words : List ℕ) → length words ≡ 2 * n → mapOf (stateOf guid len a base n words) ≡ words
+unfolding mapOf stateOf stateWith
+mapOf-stateOf guid len a base n words e = take-at words _ (2 * n) e
+
+-- such a volume opens to them, where they keep 106 to 108 and 110
+module _ (v guid : List ℕ) (len a n : ℕ) (words : List ℕ) (base : ℕ) (h : Holds v guid len a n words)
+    (nonzero : hasZero words ≡ false) (size : sizeFault n words len ≡ false) (attributes : attributesFault a ≡ false)
+    (mapped : baseFault a base ≡ false) where
+  state-there : stateAt v base ≡ stateOf guid len a base n words
+  unfolding stateAt
+  state-there =
+      let z : (64 + 8 * n - 64) / 8 ≡ n = omega arith in
+      rw (h .guid-there, h .length-there, h .attributes-there, h .header, z, h .map-there)
+
+  bytes-pass : answered (firstRefusal (bytesRefusals v)) ≡ Opening.Success
+  unfolding answered firstRefusal openRefusals
+  bytes-pass =
+      let z = size-passed n words len size in
+      let lent = h .lent in
+      let good = header-length-good (64 + 8 * n) (length v) (omega arith) (omega arith) (omega arith) (omega arith) in
+      rw (le-ltb (length v) 72 (omega arith), h .signed, h .revised, h .header, good, h .summed)
+
+  fields-pass : answered (firstRefusal (fieldsRefusals v (stateOf guid len a base n words))) ≡ Opening.Success
+  unfolding answered firstRefusal openRefusals mapFault stateOf stateWith
+  fields-pass =
+      let two : length words ≡ 2 * n = ap length (sym (h .map-there)) ∙ length-wordsAt (2 * n) v 56 in
+      let lent = h .lent in
+      let map = mapOf-stateOf guid len a base n words two in
+      rw (map, h .header, h .closed, nonzero, size, attributes, le-ltb (length v) len (omega arith), mapped)
+
+  pub opens : openVolume v base ≡ record { answer = Opening.Success; state = stateOf guid len a base n words }
+  opens =
+      sym (open-success v base bytes-pass (rw state-there fields-pass))
+      ∙ ap (λ (st : State). let o : Opened = record { answer = Opening.Success; state = st } in o) state-there
+
+-- ---- what opening answers is lawful
+
+or-false-left : (a b : Bool) → (a || b) ≡ false → a ≡ false
+or-false-left true b e = e
+or-false-left false b e = refl
+
+all-zeros : (k : ℕ) → allZero (replicate k 0) ≡ true
+unfolding allZero
+all-zeros zero = refl
+all-zeros (suc k) = all-zeros k
+
+-- beyond its entries the state that a header gives holds zeros
+zero-beyond : (s : List ℕ) (base : ℕ) → allZero (drop (2 * stateAt s base .entries) (stateAt s base .map)) ≡ true
+unfolding stateAt stateOf stateWith
+zero-beyond s base =
+    let n : ℕ = (headerLengthAt s - 64) / 8 in
+    rw (drop-at (wordsAt (2 * n) s 56) (replicate (64 - 2 * n) 0) (2 * n) (length-wordsAt (2 * n) s 56)) (all-zeros (64 - 2 * n))
+
+lawful-from : (s : List ℕ) (st : State) → firstRefusal (openRefusals s st) ≡ none → allZero (drop (2 * st .entries) (st .map)) ≡ true
+    → (unlawful st ≡ false) × (st .length ≤ length s)
+unfolding openRefusals mapFault unlawful any
+lawful-from s st e zeros =
+    let r5 = row-passed _ _ (row-passed _ _ (row-passed _ _ (row-passed _ _ (row-passed _ _ e .1) .1) .1) .1) in
+    let r6 = row-passed _ _ (r5 .1) in
+    let r7 = row-passed _ _ (r6 .1) in
+    let r8 = row-passed _ _ (r7 .1) in
+    let r9 = row-passed _ _ (r8 .1) in
+    let r10 = row-passed _ _ (r9 .1) in
+    (rw (or-false-left (hasZero (mapOf st)) _ (r6 .0), r7 .0, r8 .0, r10 .0, zeros), ltb-false (length s) (st .length) (r9 .0))
+
+-- the state that opening answers with success keeps rule 111, and the volume is lent whole: so a service call on it gets neither 111 nor 5
+pub opened-lawful : (v : List ℕ) (base : ℕ) → openVolume v base .answer ≡ Opening.Success
+    → (unlawful (openVolume v base .state) ≡ false) × (openVolume v base .state .length ≤ length v)
+unfolding openVolume stateBeside
+opened-lawful v base opened =
+    let e = answered-success (firstRefusal (openRefusals v (stateAt v base))) opened in
+    rw e (lawful-from v (stateAt v base) e (zero-beyond v base))

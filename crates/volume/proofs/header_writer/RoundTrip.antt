@@ -1,0 +1,284 @@
+-- The round trip: a written header's words sum to 0 modulo 65,536, and a volume that starts with it opens to what was written.
+use Prim.Native.Nat.{ℕ, suc, _+_, _-_, _*_, _/_, _%_, _≤_, _<_, _^_}
+use mathlib.Core.Path.{_≡_, refl, sym, ap, ap₂, subst, _∙_}
+use mathlib.Core.Bool.{Bool, true, false, not, _||_, true≢false}
+use mathlib.Core.List.{List, [], _∷_, _++_, append-assoc}
+use mathlib.Core.Option.{Option, none, some}
+use native.Mathlib.Omega.{arith}
+use borrow.Author.Tests.{eqb-true}
+use lib.Dec.{eqb, lit<}
+use lib.ListN.{length, getD, take, drop, replicate, length-append, take-append-drop}
+use lib.Seq.{take-at}
+use Rattle.common.specs.Refusals.{firstRefusal}
+use Rattle.common.proofs.Refusals.{row-passed}
+use Rattle.numbers.specs.LittleEndian.{le, leBytes}
+use Rattle.numbers.proofs.LittleEndian.{le-skip, le-leBytes, length-leBytes}
+use Rattle.volume.specs.Attributes.{attributesFault, baseFault}
+use Rattle.volume.specs.BlockMap.{headerLength, hasZero, sizeFault}
+use Rattle.volume.specs.State.{stateOf}
+use Rattle.volume.specs.Header.{signature, headerLengthAt, wordsAt, wordSum, openVolume}
+use Rattle.volume.specs.HeaderWriter.{pairs, wordsBytes, headerFront, headerWith, headerBytes, reservedAndRevision, checksum, wordsFault, writeRefusals, writtenBy, writeHeader}
+use Rattle.volume.specs.declared.header.Opening.the-variants as Opening
+use Rattle.volume.specs.declared.header_writer.Written.the-variants as Written
+use Rattle.volume.proofs.block_map.Words.{Sized, size-passed}
+use Rattle.volume.proofs.header.Fields.{wordSum-append, wordSum-two}
+use Rattle.volume.proofs.header_writer.Stores.{length-wordsBytes, length-front, length-header}
+use Rattle.volume.proofs.header.Reading.{Holds, opens}
+
+-- ---- the sum
+
+-- the words of a header with some checksum sum to those of the header with 0 and the checksum
+wordSum-header : (c : ℕ) (guid : List ℕ) (len a : ℕ) (words : List ℕ) → length guid ≡ 16 → c < 65536
+    → wordSum (headerWith c guid len a words) ≡ wordSum (headerWith 0 guid len a words) + c
+unfolding headerWith
+wordSum-header c guid len a words e small =
+    let f = headerFront guid len a (length words / 2) in
+    let b = reservedAndRevision ++ (wordsBytes words ++ replicate 8 0) in
+    let even : length f % 2 ≡ 0 = rw (length-front guid len a (length words / 2) e) in
+    rw (wordSum-append f (leBytes 2 c ++ b) even, wordSum-append f (leBytes 2 0 ++ b) even, wordSum-two c b, wordSum-two 0 b) (omega arith)
+
+-- the words of a written header sum to 0 modulo 65,536
+pub sum-zero : (guid : List ℕ) (len a : ℕ) (words : List ℕ) → length guid ≡ 16 → wordSum (headerBytes guid len a words) % 65536 ≡ 0
+unfolding headerBytes
+sum-zero guid len a words e =
+    let s = wordSum (headerWith 0 guid len a words) in
+    rw (wordSum-header (checksum s) guid len a words e (omega arith)) (omega arith)
+
+-- ---- reading a written header
+
+-- a number that stands after p
+le-after : (n : ℕ) (p q : List ℕ) (at k : ℕ) → length p + k ≡ at → le n (p ++ q) at ≡ le n q k
+le-after n p q at k e = ap (λ (x : ℕ). le n (p ++ q) x) (sym e) ∙ le-skip n p q k
+
+-- the words of a map that stands after p
+words-read : (words p q : List ℕ) → ((i : ℕ) → getD words i 0 < 2 ^ 32) → wordsAt (length words) (p ++ (wordsBytes words ++ q)) (length p) ≡ words
+unfolding wordsAt wordsBytes
+words-read [] p q below = refl
+words-read (w ∷ words) p q below =
+    let b = wordsBytes words in
+    let front : le 4 (p ++ ((leBytes 4 w ++ b) ++ q)) (length p) ≡ w =
+    le-after 4 p ((leBytes 4 w ++ b) ++ q) (length p) 0 (omega arith)
+    ∙ ap (λ (l : List ℕ). le 4 l 0) (append-assoc (leBytes 4 w) b q)
+    ∙ le-leBytes 4 w (b ++ q) (below 0) in
+    let there : p ++ ((leBytes 4 w ++ b) ++ q) ≡ (p ++ leBytes 4 w) ++ (b ++ q) =
+    ap (λ (l : List ℕ). p ++ l) (append-assoc (leBytes 4 w) b q) ∙ sym (append-assoc p (leBytes 4 w) (b ++ q)) in
+    let past : length p + 4 ≡ length (p ++ leBytes 4 w) = sym (length-append p (leBytes 4 w) ∙ ap (λ (k : ℕ). length p + k) (length-leBytes 4 w)) in
+    ap₂ (λ (x : ℕ) (l : List ℕ). x ∷ l) front
+    (ap₂ (λ (l : List ℕ) (k : ℕ). wordsAt (length words) l k) there past ∙ words-read words (p ++ leBytes 4 w) q (λ i. below (suc i)))
+
+-- the header, its parts in a row, and what follows it
+header-parts : (c : ℕ) (guid : List ℕ) (len a : ℕ) (words rest : List ℕ)
+    → headerWith c guid len a words ++ rest
+    ≡ replicate 16 0 ++ (guid ++ (leBytes 8 len ++ (leBytes 4 signature ++ (leBytes 4 a ++ (leBytes 2 (headerLength (length words / 2))
+    ++ (leBytes 2 c ++ (reservedAndRevision ++ (wordsBytes words ++ (replicate 8 0 ++ rest)))))))))
+unfolding headerWith headerFront
+header-parts c guid len a words rest = simp append-assoc
+
+-- what a volume that starts with a header holds
+module _ (guid : List ℕ) (len a : ℕ) (words rest : List ℕ) (c : ℕ) (g : length guid ≡ 16) (even : length words % 2 ≡ 0) (small : a < 2 ^ 32)
+    (below : (i : ℕ) → getD words i 0 < 2 ^ 32) (size : Sized (length words / 2) words len)
+    (sum : wordSum (headerWith c guid len a words) % 65536 ≡ 0) where
+  n : ℕ
+  n = length words / 2
+
+  v : List ℕ
+  v = headerWith c guid len a words ++ rest
+
+  tail : List ℕ
+  tail = wordsBytes words ++ (replicate 8 0 ++ rest)
+
+  t50 : List ℕ
+  unfolding tail
+  t50 = leBytes 2 c ++ (reservedAndRevision ++ tail)
+
+  t48 : List ℕ
+  unfolding t50
+  t48 = leBytes 2 (headerLength n) ++ t50
+
+  t44 : List ℕ
+  t44 = leBytes 4 a ++ t48
+
+  t40 : List ℕ
+  t40 = leBytes 4 signature ++ t44
+
+  t32 : List ℕ
+  t32 = leBytes 8 len ++ t40
+
+  parts : v ≡ replicate 16 0 ++ (guid ++ t32)
+  unfolding v t32 t40 t44 t48 t50 tail n
+  parts = header-parts c guid len a words rest
+
+  -- a number at byte 32 + k is one at byte k of the fields after the GUID
+  after-guid : (m k : ℕ) → le m v (32 + k) ≡ le m t32 k
+  after-guid m k =
+      ap (λ (l : List ℕ). le m l (32 + k)) parts
+      ∙ le-after m (replicate 16 0) (guid ++ t32) (32 + k) (16 + k) (omega arith)
+      ∙ le-after m guid t32 (16 + k) k (omega arith)
+
+  -- and so past one field more: from the fields that start at byte p to those after the first of them, w bytes long
+  after-field : (p w : ℕ) (f t : List ℕ) → length f ≡ w → ((m k : ℕ) → le m v (p + k) ≡ le m (f ++ t) k) → (m k : ℕ) → le m v (p + w + k) ≡ le m t k
+  after-field p w f t e at-field m k =
+      let q : p + w + k ≡ p + (w + k) = omega arith in
+      ap (λ (x : ℕ). le m v x) q ∙ at-field m (w + k) ∙ le-after m f t (w + k) k (ap (λ (x : ℕ). x + k) e)
+
+  after-length : (m k : ℕ) → le m v (40 + k) ≡ le m t40 k
+  unfolding t32
+  after-length = after-field 32 8 (leBytes 8 len) t40 (length-leBytes 8 len) after-guid
+
+  after-signature : (m k : ℕ) → le m v (44 + k) ≡ le m t44 k
+  unfolding t40
+  after-signature = after-field 40 4 (leBytes 4 signature) t44 (length-leBytes 4 signature) after-length
+
+  after-attributes : (m k : ℕ) → le m v (48 + k) ≡ le m t48 k
+  unfolding t44
+  after-attributes = after-field 44 4 (leBytes 4 a) t48 (length-leBytes 4 a) after-signature
+
+  after-header-length : (m k : ℕ) → le m v (50 + k) ≡ le m t50 k
+  unfolding t48
+  after-header-length = after-field 48 2 (leBytes 2 (headerLength n)) t50 (length-leBytes 2 (headerLength n)) after-attributes
+
+  length-read : le 8 v 32 ≡ len
+  unfolding t32
+  length-read = after-guid 8 0 ∙ le-leBytes 8 len t40 (omega arith)
+
+  signature-read : le 4 v 40 ≡ signature
+  unfolding t40
+  signature-read = after-length 4 0 ∙ le-leBytes 4 signature t44 (lit< tt)
+
+  attributes-read : le 4 v 44 ≡ a
+  unfolding t44
+  attributes-read = after-signature 4 0 ∙ le-leBytes 4 a t48 small
+
+  header-length-read : headerLengthAt v ≡ 64 + 8 * n
+  unfolding t48 n
+  header-length-read = after-attributes 2 0 ∙ le-leBytes 2 (headerLength n) t50 (omega arith)
+
+  revision-read : getD v 55 0 ≡ 1
+  unfolding t50 le
+  revision-read =
+      let one = after-header-length 1 5 ∙ le-after 1 (leBytes 2 c) (reservedAndRevision ++ tail) 5 3 (ap (λ (x : ℕ). x + 3) (length-leBytes 2 c)) in
+      omega arith
+
+  guid-read : take 16 (drop 16 v) ≡ guid
+  guid-read = ap (λ (l : List ℕ). take 16 (drop 16 l)) parts ∙ take-at guid t32 16 g
+
+  -- the bytes before the map
+  before-map : List ℕ
+  before-map = headerFront guid len a n ++ (leBytes 2 c ++ reservedAndRevision)
+
+  length-before-map : length before-map ≡ 56
+  unfolding before-map
+  length-before-map = simp (length-append, length-leBytes, length-front guid len a n g)
+
+  map-after : v ≡ before-map ++ (wordsBytes words ++ (replicate 8 0 ++ rest))
+  unfolding v before-map headerWith n
+  map-after = simp append-assoc
+
+  map-read : wordsAt (2 * n) v 56 ≡ words
+  unfolding n
+  map-read =
+      let e : 2 * n ≡ length words = omega arith in
+      rw (e, map-after, ← length-before-map) (words-read words before-map (replicate 8 0 ++ rest) below)
+
+  closing-read : le 8 v (64 + 8 * n - 8) ≡ 0
+  unfolding n le
+  closing-read =
+      let there : length (before-map ++ wordsBytes words) + 0 ≡ 64 + 8 * n - 8 = simp (length-append, length-before-map, length-wordsBytes) (omega arith) in
+      ap (λ (l : List ℕ). le 8 l (64 + 8 * n - 8)) (map-after ∙ sym (append-assoc before-map (wordsBytes words) (replicate 8 0 ++ rest)))
+      ∙ le-after 8 (before-map ++ wordsBytes words) (replicate 8 0 ++ rest) (64 + 8 * n - 8) 0 there
+
+  sum-read : wordSum (take (64 + 8 * n) v) % 65536 ≡ 0
+  unfolding v n
+  sum-read = rw (take-at (headerWith c guid len a words) rest (64 + 8 * n) (length-header c guid len a words g even)) sum
+
+  pub holds : len ≤ length (headerWith c guid len a words ++ rest) → Holds (headerWith c guid len a words ++ rest) guid len a (length words / 2) words
+  unfolding v n
+  holds lent =
+      record {
+        lent = lent;
+        signed = signature-read;
+        revised = revision-read;
+        header = header-length-read;
+        summed = sum-read;
+        guid-there = guid-read;
+        length-there = length-read;
+        attributes-there = attributes-read;
+        map-there = map-read;
+        closed = closing-read;
+      }
+
+-- ---- the theorem
+
+-- an accepted request: what its rows say
+words-passed : (words : List ℕ) → wordsFault words ≡ false → (hasZero words ≡ false) × (length words % 2 ≡ 0)
+unfolding wordsFault
+words-passed words = go (hasZero words) (eqb (length words % 2) 0) refl
+  where
+    go : (z e : Bool) → eqb (length words % 2) 0 ≡ e → (z || not e) ≡ false → (z ≡ false) × (length words % 2 ≡ 0)
+    go true e q p = absurd (true≢false p)
+    go false true q p = (refl, eqb-true (length words % 2) 0 q)
+    go false false q p = absurd (true≢false p)
+
+pub record Accepted (len a : ℕ) (words : List ℕ) : Type 0 where
+  pub nonzero : hasZero words ≡ false
+  pub even : length words % 2 ≡ 0
+  pub size : sizeFault (length words / 2) words len ≡ false
+  pub attributes : attributesFault a ≡ false
+
+accepted : (len a : ℕ) (words : List ℕ) (room : ℕ) → firstRefusal (writeRefusals len a words room) ≡ none → Accepted len a words
+unfolding writeRefusals
+accepted len a words room p =
+    let r1 = row-passed _ _ p in
+    let r2 = row-passed _ _ (r1 .1) in
+    let r3 = row-passed _ _ (r2 .1) in
+    let w = words-passed words (r1 .0) in
+    record { nonzero = w .0; even = w .1; size = r2 .0; attributes = r3 .0 }
+
+-- a volume that starts with the header opens
+from-header : (guid : List ℕ) (len a : ℕ) (words : List ℕ) → length guid ≡ 16 → a < 2 ^ 32 → ((i : ℕ) → getD words i 0 < 2 ^ 32) → Accepted len a words
+    → (rest : List ℕ) → len ≤ length (headerBytes guid len a words ++ rest) → (base : ℕ) → baseFault a base ≡ false
+    → openVolume (headerBytes guid len a words ++ rest) base ≡ record { answer = Opening.Success; state = stateOf guid len a base (pairs words) words }
+unfolding headerBytes
+from-header guid len a words g small below ok rest lent base mapped =
+    let c = checksum (wordSum (headerWith 0 guid len a words)) in
+    opens (headerBytes guid len a words ++ rest) guid len a (length words / 2) words base
+    (holds guid len a words rest c g (ok .even) small below (size-passed (length words / 2) words len (ok .size)) (sum-zero guid len a words g) lent)
+    (ok .nonzero) (ok .size) (ok .attributes) mapped
+
+-- For every argument that writing accepts (a GUID of 16 bytes, 32-bit attributes and words), every volume of that length
+-- (or lent with more bytes after it) that starts with the written header opens, at every base that 110 allows, to the same GUID, length, attributes, map and that base.
+pub round-trip : (guid : List ℕ) (len a : ℕ) (words room : List ℕ) → length guid ≡ 16 → a < 2 ^ 32 → ((i : ℕ) → getD words i 0 < 2 ^ 32)
+    → (k : ℕ) → writeHeader guid len a words room .answer ≡ Written.Success k
+    → (v : List ℕ) → len ≤ length v → take k v ≡ take k (writeHeader guid len a words room .room)
+    → (base : ℕ) → baseFault a base ≡ false
+    → openVolume v base ≡ record { answer = Opening.Success; state = stateOf guid len a base (pairs words) words }
+unfolding writeHeader writtenBy
+round-trip guid len a words room g small below k wrote v lent starts base mapped = go (firstRefusal (writeRefusals len a words (length room))) refl wrote starts
+  where
+    header : List ℕ
+    header = headerBytes guid len a words
+
+    go : (o : Option ℕ) → firstRefusal (writeRefusals len a words (length room)) ≡ o → writtenBy o header room .answer ≡ Written.Success k
+        → take k v ≡ take k (writtenBy o header room .room)
+        → openVolume v base ≡ record { answer = Opening.Success; state = stateOf guid len a base (pairs words) words }
+    go (some m) p w t = let z : _≡_ {A = ℕ} 0 1 = cc in absurd (omega arith)
+    go none p w t =
+        let e : length header ≡ k = cc in
+        let whole : v ≡ header ++ drop k v =
+        sym (take-append-drop k v) ∙ ap (λ (l : List ℕ). l ++ drop k v) (t ∙ take-at header (drop (length header) room) k e) in
+        rw whole (from-header guid len a words g small below (accepted len a words (length room) p) (drop k v) (subst (λ (l : List ℕ). len ≤ length l) whole lent) base mapped)
+
+-- the words of a header that was written sum to 0 modulo 65,536
+pub written-sum-zero : (guid : List ℕ) (len a : ℕ) (words room : List ℕ) → length guid ≡ 16 → (k : ℕ)
+    → writeHeader guid len a words room .answer ≡ Written.Success k → wordSum (take k (writeHeader guid len a words room .room)) % 65536 ≡ 0
+unfolding writeHeader writtenBy
+written-sum-zero guid len a words room g k wrote = go (firstRefusal (writeRefusals len a words (length room))) wrote
+  where
+    header : List ℕ
+    header = headerBytes guid len a words
+
+    go : (o : Option ℕ) → writtenBy o header room .answer ≡ Written.Success k → wordSum (take k (writtenBy o header room .room)) % 65536 ≡ 0
+    go (some m) w = let z : _≡_ {A = ℕ} 0 1 = cc in absurd (omega arith)
+    go none w =
+        let e : length header ≡ k = cc in
+        rw (take-at header (drop (length header) room) k e) (sum-zero guid len a words g)
