@@ -23,10 +23,11 @@ unfoldable pub wordsBytes : List ℕ → List ℕ
 wordsBytes [] = []
 wordsBytes (w ∷ rest) = leBytes 4 w ++ wordsBytes rest
 
--- the header's bytes before its checksum (0..49), of n entries: zero vector, GUID, volume length, signature, attributes, header length
+-- the header's bytes before its checksum (0..49), the header being h bytes long: zero vector, GUID, volume length, signature, attributes,
+-- header length
 unfoldable pub headerFront : List ℕ → ℕ → ℕ → ℕ → List ℕ
-headerFront guid len attributes n =
-    replicate 16 0 ++ (guid ++ (leBytes 8 len ++ (leBytes 4 signature ++ (leBytes 4 attributes ++ leBytes 2 (headerLength n)))))
+headerFront guid len attributes h =
+    replicate 16 0 ++ (guid ++ (leBytes 8 len ++ (leBytes 4 signature ++ (leBytes 4 attributes ++ leBytes 2 h))))
 
 -- bytes 52..55: reserved, as zeros, and the revision
 abbrev pub reservedAndRevision : List ℕ
@@ -35,7 +36,7 @@ reservedAndRevision = 0 ∷ 0 ∷ 0 ∷ revision ∷ []
 -- a header with this checksum; the map is ended by a pair of zeros
 unfoldable pub headerWith : ℕ → List ℕ → ℕ → ℕ → List ℕ → List ℕ
 headerWith check guid len attributes words =
-    headerFront guid len attributes (pairs words) ++ (leBytes 2 check ++ (reservedAndRevision ++ (wordsBytes words ++ replicate 8 0)))
+    headerFront guid len attributes (headerLength (pairs words)) ++ (leBytes 2 check ++ (reservedAndRevision ++ (wordsBytes words ++ replicate 8 0)))
 
 -- the checksum that brings a sum of 16-bit words to 0
 abbrev pub checksum : ℕ → ℕ

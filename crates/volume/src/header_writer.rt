@@ -62,17 +62,16 @@ pub fn write_header(
     if room.len() < header {
         return Written::Refused(5);
     }
-    store_fields(guid, len, attributes, n, room);
+    store_fields(guid, len, attributes, header, room);
     store_map(map, room);
     let sum = word_sum(&room[..header]) % WORD_MODULUS;
     numbers::store(room, CHECKSUM, 2, (WORD_MODULUS - sum) % WORD_MODULUS);
     Written::Success(header)
 }
 
-// Stores a header's first 56 bytes, with 0 for the checksum.
-fn store_fields(guid: [u8; 16], len: u64, attributes: u32, n: usize, room: &mut [u8])
-    requires { ⌜ n ≤ maxEntries ⌝ }
-    ensures { λ _. ⌜ now (room .exit) ≡ sets (now (room .entry)) 0 (headerFront guid len attributes n ++ (leBytes 2 0 ++ reservedAndRevision)) ⌝ }
+// Stores the first 56 bytes of a header of this length, with 0 for the checksum.
+fn store_fields(guid: [u8; 16], len: u64, attributes: u32, header: usize, room: &mut [u8])
+    ensures { λ _. ⌜ now (room .exit) ≡ sets (now (room .entry)) 0 (headerFront guid len attributes header ++ (leBytes 2 0 ++ reservedAndRevision)) ⌝ }
 {
     numbers::store(room, 0, 8, 0);
     numbers::store(room, 8, 8, 0);
@@ -80,7 +79,7 @@ fn store_fields(guid: [u8; 16], len: u64, attributes: u32, n: usize, room: &mut 
     numbers::store(room, LENGTH, 8, len);
     numbers::store(room, SIGNATURE_PLACE, 4, SIGNATURE as u64);
     numbers::store(room, ATTRIBUTES, 4, attributes as u64);
-    numbers::store(room, HEADER_LENGTH, 2, header_length(n) as u64);
+    numbers::store(room, HEADER_LENGTH, 2, header as u64);
     numbers::store(room, CHECKSUM, 2, 0);
     numbers::store(room, RESERVED, 4, RESERVED_AND_REVISION);
 }

@@ -10,14 +10,15 @@ use borrow.Author.Tests.{ltb-true, ltb-false, eqb-true, not-false}
 use lib.Dec.{eqb, ltb}
 use lib.ListN.{length, getD, take, drop, drop-of-length-le, List·getD-eq-default}
 use lib.Seq.{drop-cons}
-use Rattle.common.specs.Refusals.{Row, firstRefusal, refusalNumber}
+use Rattle.common.specs.Answers.{refused, success}
+use Rattle.common.specs.Refusals.{Row, firstRefusal, unlessRefused}
 use Rattle.common.proofs.Refusals.{any-passed, row-passed, then-passed, then-refused}
 use Rattle.common.proofs.Lists.{drop-two}
 use Rattle.numbers.specs.LittleEndian.{le, leBytes}
+use Rattle.volume.specs.BlockMap.{maxEntries}
 use Rattle.volume.specs.State.{stateWith, stateOf, zeroState}
-use Rattle.volume.specs.Header.{headerLengthAt, wordsAt, wordSum, stateAt, headerLengthFault, openRefusals, openingNumber, answered, stateBeside, openVolume}
+use Rattle.volume.specs.Header.{headerLengthAt, wordsAt, wordSum, stateAt, headerLengthFault, minHeader, maxHeader, openRefusals, Opens, opens, opened, openVolume}
 use Rattle.volume.specs.declared.state.State.{State}
-use Rattle.volume.specs.declared.header.Opening.the-variants as Opening
 
 -- k words, and the word at place i of them
 pub length-wordsAt : (k : ℕ) (s : List ℕ) (at : ℕ) → length (wordsAt k s at) ≡ k
@@ -74,42 +75,22 @@ pub rows-split : (s : List ℕ) (st : State) → openRefusals s st ≡ bytesRefu
 unfolding openRefusals
 rows-split s st = refl
 
--- the number of the answer is that of the first row that applies, 0 where none does
-pub opening-number : (s : List ℕ) (base : ℕ) → openingNumber (openVolume s base .answer) ≡ refusalNumber (firstRefusal (openRefusals s (stateAt s base)))
-unfolding openVolume openingNumber answered refusalNumber
-opening-number s base = go (firstRefusal (openRefusals s (stateAt s base)))
-  where
-    go : (o : Option ℕ) → openingNumber (answered o) ≡ refusalNumber o
-    go none = refl
-    go (some n) = refl
-
--- an answer says whether a row applied, and which number
-pub answered-success : (o : Option ℕ) → answered o ≡ Opening.Success → o ≡ none
-unfolding answered
-answered-success none e = refl
-answered-success (some n) e = cc
-
-pub answered-refused : (o : Option ℕ) (n : ℕ) → answered o ≡ Opening.Refused n → o ≡ some n
-unfolding answered
-answered-refused none n e = cc
-answered-refused (some m) n e = let z : m ≡ n = cc in ap some z
-
 -- what bytes that pass 101 to 104 are known to hold
 pub record Readable (s : List ℕ) : Type 0 where
-  pub long : 72 ≤ length s
-  pub least : 72 ≤ headerLengthAt s
-  pub most : headerLengthAt s ≤ 320
+  pub long : minHeader ≤ length s
+  pub least : minHeader ≤ headerLengthAt s
+  pub most : headerLengthAt s ≤ maxHeader
   pub within : headerLengthAt s ≤ length s
   pub whole : headerLengthAt s % 8 ≡ 0
 
-pub header-length-passed : (h lent : ℕ) → headerLengthFault h lent ≡ false → (72 ≤ h) × (h ≤ 320) × (h ≤ lent) × (h % 8 ≡ 0)
+pub header-length-passed : (h lent : ℕ) → headerLengthFault h lent ≡ false → (minHeader ≤ h) × (h ≤ maxHeader) × (h ≤ lent) × (h % 8 ≡ 0)
 unfolding headerLengthFault
 header-length-passed h lent e =
     let p = any-passed (not (eqb (h % 8) 0)) _ e in
-    let q = any-passed (ltb h 72) _ (p .1) in
-    let r = any-passed (ltb 320 h) _ (q .1) in
+    let q = any-passed (ltb h minHeader) _ (p .1) in
+    let r = any-passed (ltb maxHeader h) _ (q .1) in
     let t = any-passed (ltb lent h) _ (r .1) in
-    (ltb-false h 72 (q .0), ltb-false 320 h (r .0), ltb-false lent h (t .0), eqb-true (h % 8) 0 (not-false _ (p .0)))
+    (ltb-false h minHeader (q .0), ltb-false maxHeader h (r .0), ltb-false lent h (t .0), eqb-true (h % 8) 0 (not-false _ (p .0)))
 
 pub readable : (s : List ℕ) → firstRefusal (bytesRefusals s) ≡ none → Readable s
 unfolding openRefusals
@@ -119,49 +100,52 @@ readable s p =
     let r3 = row-passed _ _ (r2 .1) in
     let r4 = row-passed _ _ (r3 .1) in
     let h = header-length-passed (headerLengthAt s) (length s) (r4 .0) in
-    record { long = ltb-false (length s) 72 (r1 .0); least = h .0; most = h .1; within = h .2; whole = h .3 }
+    record { long = ltb-false (length s) minHeader (r1 .0); least = h .0; most = h .1; within = h .2; whole = h .3 }
 
--- a readable header's state has at most 32 entries
-pub entries-bound : (s : List ℕ) (base : ℕ) → Readable s → 2 * stateAt s base .entries ≤ 64
+-- a readable header's state keeps the limit of entries
+pub entries-bound : (s : List ℕ) (base : ℕ) → Readable s → 2 * stateAt s base .entries ≤ 2 * maxEntries
 unfolding stateAt stateOf stateWith
 entries-bound s base r = omega arith
 
 -- opening by the two halves of its table
-pub open-early : (s : List ℕ) (base n : ℕ) → answered (firstRefusal (bytesRefusals s)) ≡ Opening.Refused n
-    → record { answer = answered (some n); state = zeroState } ≡ openVolume s base
-unfolding openVolume stateBeside
-open-early s base n e = rw (rows-split s (stateAt s base), then-refused (bytesRefusals s) (fieldsRefusals s (stateAt s base)) n (answered-refused _ n e))
+module _ (s : List ℕ) (base : ℕ) where
+  pub open-early : (n : ℕ) → firstRefusal (bytesRefusals s) ≡ some n → opens (refused n) zeroState ≡ openVolume s base
+  unfolding openVolume
+  open-early n e = rw (rows-split s (stateAt s base), then-refused (bytesRefusals s) (fieldsRefusals s (stateAt s base)) n e)
 
-pub open-late : (s : List ℕ) (base n : ℕ) → answered (firstRefusal (bytesRefusals s)) ≡ Opening.Success
-    → answered (firstRefusal (fieldsRefusals s (stateAt s base))) ≡ Opening.Refused n
-    → record { answer = answered (some n); state = zeroState } ≡ openVolume s base
-unfolding openVolume stateBeside
-open-late s base n p e =
-    rw (rows-split s (stateAt s base), then-passed (bytesRefusals s) (fieldsRefusals s (stateAt s base)) (answered-success _ p), answered-refused _ n e)
+  module _ (early : firstRefusal (bytesRefusals s) ≡ none) where
+    pub open-late : (n : ℕ) → firstRefusal (fieldsRefusals s (stateAt s base)) ≡ some n → opens (refused n) zeroState ≡ openVolume s base
+    unfolding openVolume
+    open-late n e = rw (rows-split s (stateAt s base), then-passed (bytesRefusals s) (fieldsRefusals s (stateAt s base)) early, e)
 
-pub open-success : (s : List ℕ) (base : ℕ) → answered (firstRefusal (bytesRefusals s)) ≡ Opening.Success
-    → answered (firstRefusal (fieldsRefusals s (stateAt s base))) ≡ Opening.Success
-    → record { answer = Opening.Success; state = stateAt s base } ≡ openVolume s base
-unfolding openVolume stateBeside answered
-open-success s base p e =
-    rw (
-      rows-split s (stateAt s base),
-      then-passed (bytesRefusals s) (fieldsRefusals s (stateAt s base)) (answered-success (firstRefusal (bytesRefusals s)) p),
-      answered-success (firstRefusal (fieldsRefusals s (stateAt s base))) e,
-    )
+    pub open-success : firstRefusal (fieldsRefusals s (stateAt s base)) ≡ none → opened (stateAt s base) ≡ openVolume s base
+    unfolding openVolume
+    open-success e = rw (rows-split s (stateAt s base), then-passed (bytesRefusals s) (fieldsRefusals s (stateAt s base)) early, e)
 
--- the state that opening answers, also the zero state beside a refusal, has at most 32 entries
-pub opened-entries : (s : List ℕ) (base : ℕ) → openVolume s base .state .entries ≤ 32
-unfolding openVolume stateBeside zeroState stateOf stateWith
+  -- where opening succeeds no row applies
+  pub opened-passed : openVolume s base .answer ≡ success [] → firstRefusal (openRefusals s (stateAt s base)) ≡ none
+  unfolding openVolume
+  opened-passed = go (firstRefusal (openRefusals s (stateAt s base)))
+    where
+      go : (o : Option ℕ) → unlessRefused (λ n. opens (refused n) zeroState) o (opened (stateAt s base)) .answer ≡ success [] → o ≡ none
+      go none e = refl
+      go (some n) e = cc
+
+-- the state that opening answers, also the zero state beside a refusal, keeps the limit of entries
+pub opened-entries : (s : List ℕ) (base : ℕ) → openVolume s base .state .entries ≤ maxEntries
+unfolding openVolume zeroState stateOf stateWith
 opened-entries s base = go (firstRefusal (bytesRefusals s)) refl
   where
     st : State
     st = stateAt s base
 
-    kept : (o : Option ℕ) → Readable s → stateBeside o st .entries ≤ 32
+    answer : Option ℕ → Opens
+    answer o = unlessRefused (λ n. opens (refused n) zeroState) o (opened st)
+
+    kept : (o : Option ℕ) → Readable s → answer o .state .entries ≤ maxEntries
     kept none r = let b = entries-bound s base r in omega arith
     kept (some n) r = omega arith
 
-    go : (o : Option ℕ) → firstRefusal (bytesRefusals s) ≡ o → stateBeside (firstRefusal (openRefusals s st)) st .entries ≤ 32
+    go : (o : Option ℕ) → firstRefusal (bytesRefusals s) ≡ o → answer (firstRefusal (openRefusals s st)) .state .entries ≤ maxEntries
     go none p = rw (rows-split s (stateAt s base), then-passed (bytesRefusals s) (fieldsRefusals s st) p) (kept (firstRefusal (fieldsRefusals s st)) (readable s p))
     go (some n) p = rw (rows-split s (stateAt s base), then-refused (bytesRefusals s) (fieldsRefusals s st) n p) (omega arith)

@@ -2,25 +2,24 @@
 use Prim.Native.Nat.{ℕ, zero, suc, _+_, _-_, _*_, _/_, _%_, _≤_, _<_}
 use mathlib.Core.Path.{_≡_, refl, sym, ap, ap₂, _∙_}
 use mathlib.Core.Bool.{Bool, true, false, _||_}
-use mathlib.Core.List.{List, _∷_}
+use mathlib.Core.List.{List, [], _∷_}
 use mathlib.Core.Option.{Option, none, some}
 use native.Mathlib.Omega.{arith}
 use borrow.Author.Tests.{le-ltb, eq-eqb, ne-eqb, ltb-false}
 use lib.Dec.{eqb}
 use lib.ListN.{length, getD, take, drop, replicate, length-take, length-drop}
 use lib.Seq.{ext-getD, getD-take, getD-drop, take-at, drop-at}
-use Rattle.common.specs.Refusals.{firstRefusal, any}
+use Rattle.common.specs.Answers.{Answer, refused, success}
+use Rattle.common.specs.Refusals.{firstRefusal, unlessRefused, any}
 use Rattle.common.proofs.Refusals.{row-passed, then-passed, then-refused, front-passed}
 use Rattle.numbers.specs.LittleEndian.{le}
 use Rattle.numbers.proofs.LittleEndian.{le-same}
 use Rattle.volume.specs.Attributes.{attributesFault, baseFault}
 use Rattle.volume.specs.BlockMap.{hasZero, allZero, sizeFault}
 use Rattle.volume.specs.State.{stateWith, stateOf, zeroState, mapOf, unlawful}
-use Rattle.volume.specs.Header.{signature, headerLengthAt, wordsAt, wordSum, stateAt, headerLengthFault, mapFault, openRefusals, answered, stateBeside, openVolume}
+use Rattle.volume.specs.Header.{signature, headerLengthAt, wordsAt, wordSum, stateAt, headerLengthFault, mapFault, openRefusals, opens, opened, openVolume, wordModulus}
 use Rattle.volume.specs.declared.state.State.{State}
-use Rattle.volume.specs.declared.header.Opening.the-variants as Opening
-use Rattle.volume.specs.declared.header.Opened.{Opened}
-use Rattle.volume.proofs.header.Fields.{bytesRefusals, fieldsRefusals, rows-split, answered-success, length-wordsAt, readable, open-success}
+use Rattle.volume.proofs.header.Fields.{bytesRefusals, fieldsRefusals, rows-split, length-wordsAt, readable, open-success, opened-passed}
 use Rattle.volume.proofs.block_map.Words.{size-passed}
 
 -- two byte strings agree from place a up to place b
@@ -74,7 +73,7 @@ module _ (v w : List ℕ) (base : ℕ) (e : length v ≡ length w) (front : Agre
       rw (closing, same-header-length, e)
 
   abbrev Zero : List ℕ → Bool
-  Zero s = eqb (wordSum (take (headerLengthAt v) s) % 65536) 0
+  Zero s = eqb (wordSum (take (headerLengthAt v) s) % wordModulus) 0
 
   same-bytes : Zero v ≡ Zero w → bytesRefusals v ≡ bytesRefusals w
   unfolding openRefusals
@@ -85,7 +84,7 @@ module _ (v w : List ℕ) (base : ℕ) (e : length v ≡ length w) (front : Agre
 
   -- where the sums of both are 0, or of neither, opening answers the same
   pub open-same : Zero v ≡ Zero w → openVolume v base ≡ openVolume w base
-  unfolding openVolume answered stateBeside
+  unfolding openVolume
   open-same sums = go (firstRefusal (bytesRefusals v)) refl
     where
       go : (o : Option ℕ) → firstRefusal (bytesRefusals v) ≡ o → openVolume v base ≡ openVolume w base
@@ -99,28 +98,28 @@ module _ (v w : List ℕ) (base : ℕ) (e : length v ≡ length w) (front : Agre
       go none p = rw (same-state, rows-split v (stateAt w base), rows-split w (stateAt w base), same-bytes sums, same-fields (readable v p .least))
 
   -- where the sum of the one is 0 and it opens, and that of the other is not, the other is refused with 105
-  pub sum-decides : openVolume v base .answer ≡ Opening.Success → (wordSum (take (headerLengthAt v) w) % 65536 ≡ 0 → ⊥)
-      → openVolume w base .answer ≡ Opening.Refused 105
-  unfolding openVolume openRefusals firstRefusal answered
-  sum-decides opens off =
+  pub sum-decides : openVolume v base .answer ≡ success [] → (wordSum (take (headerLengthAt v) w) % wordModulus ≡ 0 → ⊥)
+      → openVolume w base ≡ opens (refused 105) zeroState
+  unfolding openVolume openRefusals firstRefusal
+  sum-decides success-v off =
       let passed : firstRefusal (take 4 (openRefusals v zeroState)) ≡ none =
       front-passed (take 4 (openRefusals v (stateAt v base))) (drop 4 (openRefusals v (stateAt v base)))
-      (answered-success (firstRefusal (openRefusals v (stateAt v base))) opens) in
+      (opened-passed v base success-v) in
       let here : firstRefusal (drop 4 (openRefusals w (stateAt w base))) ≡ some 105 =
-      rw (ne-eqb (wordSum (take (headerLengthAt w) w) % 65536) 0 (λ z. off (rw same-header-length z))) in
-      ap answered
+      rw (ne-eqb (wordSum (take (headerLengthAt w) w) % wordModulus) 0 (λ z. off (rw same-header-length z))) in
+      ap (λ (o : Option ℕ). unlessRefused (λ n. opens (refused n) zeroState) o (opened (stateAt w base)))
       (then-passed (take 4 (openRefusals w (stateAt w base))) (drop 4 (openRefusals w (stateAt w base))) (ap firstRefusal (sym same-start) ∙ passed) ∙ here)
 
 -- opening depends on the header's bytes, the lent length and the base only
 pub header-only : (v w : List ℕ) (base : ℕ) → length v ≡ length w → Agree v w 0 72 → Agree v w 0 (headerLengthAt v) → openVolume v base ≡ openVolume w base
 header-only v w base e least whole =
     open-same v w base e (λ i p q. least i (omega arith) (omega arith)) (λ i p q. least i (omega arith) q) (λ i p q. whole i (omega arith) q)
-    (ap (λ (l : List ℕ). eqb (wordSum l % 65536) 0) (take-same v w (headerLengthAt v) 0 e (λ i p q. whole i p (omega arith))))
+    (ap (λ (l : List ℕ). eqb (wordSum l % wordModulus) 0) (take-same v w (headerLengthAt v) 0 e (λ i p q. whole i p (omega arith))))
 
 -- nonzero reserved bytes and zero vector change nothing but the sum: two byte strings that agree in all else, each with a checksum
 -- that brings its words to 0, open alike; `sum-decides` is the other half
 pub reserved-ignored : (v w : List ℕ) (base : ℕ) → length v ≡ length w → Agree v w 16 50 → Agree v w 55 72 → Agree v w 55 (headerLengthAt v)
-    → wordSum (take (headerLengthAt v) v) % 65536 ≡ 0 → wordSum (take (headerLengthAt v) w) % 65536 ≡ 0 → openVolume v base ≡ openVolume w base
+    → wordSum (take (headerLengthAt v) v) % wordModulus ≡ 0 → wordSum (take (headerLengthAt v) w) % wordModulus ≡ 0 → openVolume v base ≡ openVolume w base
 reserved-ignored v w base e front least back p q = open-same v w base e front least back (rw (p, q))
 
 -- what a volume's bytes must hold to open to these values
@@ -129,7 +128,7 @@ pub record Holds (v guid : List ℕ) (len a n : ℕ) (words : List ℕ) : Type 0
   pub signed : le 4 v 40 ≡ signature
   pub revised : getD v 55 0 ≡ 1
   pub header : headerLengthAt v ≡ 64 + 8 * n
-  pub summed : wordSum (take (64 + 8 * n) v) % 65536 ≡ 0
+  pub summed : wordSum (take (64 + 8 * n) v) % wordModulus ≡ 0
   pub guid-there : take 16 (drop 16 v) ≡ guid
   pub length-there : le 8 v 32 ≡ len
   pub attributes-there : le 4 v 44 ≡ a
@@ -155,26 +154,24 @@ module _ (v guid : List ℕ) (len a n : ℕ) (words : List ℕ) (base : ℕ) (h 
       let z : (64 + 8 * n - 64) / 8 ≡ n = omega arith in
       rw (h .guid-there, h .length-there, h .attributes-there, h .header, z, h .map-there)
 
-  bytes-pass : answered (firstRefusal (bytesRefusals v)) ≡ Opening.Success
-  unfolding answered firstRefusal openRefusals
+  bytes-pass : firstRefusal (bytesRefusals v) ≡ none
+  unfolding firstRefusal openRefusals
   bytes-pass =
       let z = size-passed n words len size in
       let lent = h .lent in
       let good = header-length-good (64 + 8 * n) (length v) (omega arith) (omega arith) (omega arith) (omega arith) in
       rw (le-ltb (length v) 72 (omega arith), h .signed, h .revised, h .header, good, h .summed)
 
-  fields-pass : answered (firstRefusal (fieldsRefusals v (stateOf guid len a base n words))) ≡ Opening.Success
-  unfolding answered firstRefusal openRefusals mapFault stateOf stateWith
+  fields-pass : firstRefusal (fieldsRefusals v (stateOf guid len a base n words)) ≡ none
+  unfolding firstRefusal openRefusals mapFault stateOf stateWith
   fields-pass =
       let two : length words ≡ 2 * n = ap length (sym (h .map-there)) ∙ length-wordsAt (2 * n) v 56 in
       let lent = h .lent in
       let map = mapOf-stateOf guid len a base n words two in
       rw (map, h .header, h .closed, nonzero, size, attributes, le-ltb (length v) len (omega arith), mapped)
 
-  pub opens : openVolume v base ≡ record { answer = Opening.Success; state = stateOf guid len a base n words }
-  opens =
-      sym (open-success v base bytes-pass (rw state-there fields-pass))
-      ∙ ap (λ (st : State). let o : Opened = record { answer = Opening.Success; state = st } in o) state-there
+  pub opens-to : openVolume v base ≡ opened (stateOf guid len a base n words)
+  opens-to = sym (open-success v base bytes-pass (rw state-there fields-pass)) ∙ ap (λ (st : State). opened st) state-there
 
 -- ---- what opening answers is lawful
 
@@ -207,9 +204,9 @@ lawful-from s st e zeros =
     (rw (or-false-left (hasZero (mapOf st)) _ (r6 .0), r7 .0, r8 .0, r10 .0, zeros), ltb-false (length s) (st .length) (r9 .0))
 
 -- the state that opening answers with success keeps rule 111, and the volume is lent whole: so a service call on it gets neither 111 nor 5
-pub opened-lawful : (v : List ℕ) (base : ℕ) → openVolume v base .answer ≡ Opening.Success
+pub opened-lawful : (v : List ℕ) (base : ℕ) → openVolume v base .answer ≡ success []
     → (unlawful (openVolume v base .state) ≡ false) × (openVolume v base .state .length ≤ length v)
-unfolding openVolume stateBeside
-opened-lawful v base opened =
-    let e = answered-success (firstRefusal (openRefusals v (stateAt v base))) opened in
+unfolding openVolume
+opened-lawful v base success-v =
+    let e = opened-passed v base success-v in
     rw e (lawful-from v (stateAt v base) e (zero-beyond v base))

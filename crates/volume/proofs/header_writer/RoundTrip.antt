@@ -9,36 +9,35 @@ use borrow.Author.Tests.{eqb-true}
 use lib.Dec.{eqb, lit<}
 use lib.ListN.{length, getD, take, drop, replicate, length-append, take-append-drop}
 use lib.Seq.{take-at}
-use Rattle.common.specs.Refusals.{firstRefusal}
+use Rattle.common.specs.Answers.{refused, success}
+use Rattle.common.specs.Refusals.{firstRefusal, unlessRefused}
 use Rattle.common.proofs.Refusals.{row-passed}
 use Rattle.numbers.specs.LittleEndian.{le, leBytes}
 use Rattle.numbers.proofs.LittleEndian.{le-skip, le-leBytes, length-leBytes}
 use Rattle.volume.specs.Attributes.{attributesFault, baseFault}
 use Rattle.volume.specs.BlockMap.{headerLength, hasZero, sizeFault}
 use Rattle.volume.specs.State.{stateOf}
-use Rattle.volume.specs.Header.{signature, headerLengthAt, wordsAt, wordSum, openVolume}
-use Rattle.volume.specs.HeaderWriter.{pairs, wordsBytes, headerFront, headerWith, headerBytes, reservedAndRevision, checksum, wordsFault, writeRefusals, writtenBy, writeHeader}
-use Rattle.volume.specs.declared.header.Opening.the-variants as Opening
-use Rattle.volume.specs.declared.header_writer.Written.the-variants as Written
+use Rattle.volume.specs.Header.{signature, headerLengthAt, opened, wordModulus, wordsAt, wordSum, openVolume}
+use Rattle.volume.specs.HeaderWriter.{pairs, wordsBytes, headerFront, headerWith, headerBytes, reservedAndRevision, checksum, wordsFault, writeRefusals, HeaderWritten, wrote, writeHeader}
 use Rattle.volume.proofs.block_map.Words.{Sized, size-passed}
 use Rattle.volume.proofs.header.Fields.{wordSum-append, wordSum-two}
 use Rattle.volume.proofs.header_writer.Stores.{length-wordsBytes, length-front, length-header}
-use Rattle.volume.proofs.header.Reading.{Holds, opens}
+use Rattle.volume.proofs.header.Reading.{Holds, opens-to}
 
 -- ---- the sum
 
 -- the words of a header with some checksum sum to those of the header with 0 and the checksum
-wordSum-header : (c : ℕ) (guid : List ℕ) (len a : ℕ) (words : List ℕ) → length guid ≡ 16 → c < 65536
+wordSum-header : (c : ℕ) (guid : List ℕ) (len a : ℕ) (words : List ℕ) → length guid ≡ 16 → c < wordModulus
     → wordSum (headerWith c guid len a words) ≡ wordSum (headerWith 0 guid len a words) + c
 unfolding headerWith
 wordSum-header c guid len a words e small =
-    let f = headerFront guid len a (length words / 2) in
+    let f = headerFront guid len a (headerLength (length words / 2)) in
     let b = reservedAndRevision ++ (wordsBytes words ++ replicate 8 0) in
-    let even : length f % 2 ≡ 0 = rw (length-front guid len a (length words / 2) e) in
+    let even : length f % 2 ≡ 0 = rw (length-front guid len a (headerLength (length words / 2)) e) in
     rw (wordSum-append f (leBytes 2 c ++ b) even, wordSum-append f (leBytes 2 0 ++ b) even, wordSum-two c b, wordSum-two 0 b) (omega arith)
 
 -- the words of a written header sum to 0 modulo 65,536
-pub sum-zero : (guid : List ℕ) (len a : ℕ) (words : List ℕ) → length guid ≡ 16 → wordSum (headerBytes guid len a words) % 65536 ≡ 0
+pub sum-zero : (guid : List ℕ) (len a : ℕ) (words : List ℕ) → length guid ≡ 16 → wordSum (headerBytes guid len a words) % wordModulus ≡ 0
 unfolding headerBytes
 sum-zero guid len a words e =
     let s = wordSum (headerWith 0 guid len a words) in
@@ -77,7 +76,7 @@ header-parts c guid len a words rest = simp append-assoc
 -- what a volume that starts with a header holds
 module _ (guid : List ℕ) (len a : ℕ) (words rest : List ℕ) (c : ℕ) (g : length guid ≡ 16) (even : length words % 2 ≡ 0) (small : a < 2 ^ 32)
     (below : (i : ℕ) → getD words i 0 < 2 ^ 32) (size : Sized (length words / 2) words len)
-    (sum : wordSum (headerWith c guid len a words) % 65536 ≡ 0) where
+    (sum : wordSum (headerWith c guid len a words) % wordModulus ≡ 0) where
   n : ℕ
   n = length words / 2
 
@@ -164,11 +163,11 @@ module _ (guid : List ℕ) (len a : ℕ) (words rest : List ℕ) (c : ℕ) (g : 
 
   -- the bytes before the map
   before-map : List ℕ
-  before-map = headerFront guid len a n ++ (leBytes 2 c ++ reservedAndRevision)
+  before-map = headerFront guid len a (headerLength n) ++ (leBytes 2 c ++ reservedAndRevision)
 
   length-before-map : length before-map ≡ 56
   unfolding before-map
-  length-before-map = simp (length-append, length-leBytes, length-front guid len a n g)
+  length-before-map = simp (length-append, length-leBytes, length-front guid len a (headerLength n) g)
 
   map-after : v ≡ before-map ++ (wordsBytes words ++ (replicate 8 0 ++ rest))
   unfolding v before-map headerWith n
@@ -187,7 +186,7 @@ module _ (guid : List ℕ) (len a : ℕ) (words rest : List ℕ) (c : ℕ) (g : 
       ap (λ (l : List ℕ). le 8 l (64 + 8 * n - 8)) (map-after ∙ sym (append-assoc before-map (wordsBytes words) (replicate 8 0 ++ rest)))
       ∙ le-after 8 (before-map ++ wordsBytes words) (replicate 8 0 ++ rest) (64 + 8 * n - 8) 0 there
 
-  sum-read : wordSum (take (64 + 8 * n) v) % 65536 ≡ 0
+  sum-read : wordSum (take (64 + 8 * n) v) % wordModulus ≡ 0
   unfolding v n
   sum-read = rw (take-at (headerWith c guid len a words) rest (64 + 8 * n) (length-header c guid len a words g even)) sum
 
@@ -237,30 +236,33 @@ accepted len a words room p =
 -- a volume that starts with the header opens
 from-header : (guid : List ℕ) (len a : ℕ) (words : List ℕ) → length guid ≡ 16 → a < 2 ^ 32 → ((i : ℕ) → getD words i 0 < 2 ^ 32) → Accepted len a words
     → (rest : List ℕ) → len ≤ length (headerBytes guid len a words ++ rest) → (base : ℕ) → baseFault a base ≡ false
-    → openVolume (headerBytes guid len a words ++ rest) base ≡ record { answer = Opening.Success; state = stateOf guid len a base (pairs words) words }
+    → openVolume (headerBytes guid len a words ++ rest) base ≡ opened (stateOf guid len a base (pairs words) words)
 unfolding headerBytes
 from-header guid len a words g small below ok rest lent base mapped =
     let c = checksum (wordSum (headerWith 0 guid len a words)) in
-    opens (headerBytes guid len a words ++ rest) guid len a (length words / 2) words base
+    opens-to (headerBytes guid len a words ++ rest) guid len a (length words / 2) words base
     (holds guid len a words rest c g (ok .even) small below (size-passed (length words / 2) words len (ok .size)) (sum-zero guid len a words g) lent)
     (ok .nonzero) (ok .size) (ok .attributes) mapped
 
 -- For every argument that writing accepts (a GUID of 16 bytes, 32-bit attributes and words), every volume of that length
 -- (or lent with more bytes after it) that starts with the written header opens, at every base that 110 allows, to the same GUID, length, attributes, map and that base.
 pub round-trip : (guid : List ℕ) (len a : ℕ) (words room : List ℕ) → length guid ≡ 16 → a < 2 ^ 32 → ((i : ℕ) → getD words i 0 < 2 ^ 32)
-    → (k : ℕ) → writeHeader guid len a words room .answer ≡ Written.Success k
+    → (k : ℕ) → writeHeader guid len a words room .answer ≡ success (k ∷ [])
     → (v : List ℕ) → len ≤ length v → take k v ≡ take k (writeHeader guid len a words room .room)
     → (base : ℕ) → baseFault a base ≡ false
-    → openVolume v base ≡ record { answer = Opening.Success; state = stateOf guid len a base (pairs words) words }
-unfolding writeHeader writtenBy
-round-trip guid len a words room g small below k wrote v lent starts base mapped = go (firstRefusal (writeRefusals len a words (length room))) refl wrote starts
+    → openVolume v base ≡ opened (stateOf guid len a base (pairs words) words)
+unfolding writeHeader
+round-trip guid len a words room g small below k done v lent starts base mapped = go (firstRefusal (writeRefusals len a words (length room))) refl done starts
   where
     header : List ℕ
     header = headerBytes guid len a words
 
-    go : (o : Option ℕ) → firstRefusal (writeRefusals len a words (length room)) ≡ o → writtenBy o header room .answer ≡ Written.Success k
-        → take k v ≡ take k (writtenBy o header room .room)
-        → openVolume v base ≡ record { answer = Opening.Success; state = stateOf guid len a base (pairs words) words }
+    outcome : Option ℕ → HeaderWritten
+    outcome o = unlessRefused (λ n. wrote (refused n) room) o (wrote (success (length header ∷ [])) (header ++ drop (length header) room))
+
+    go : (o : Option ℕ) → firstRefusal (writeRefusals len a words (length room)) ≡ o → outcome o .answer ≡ success (k ∷ [])
+        → take k v ≡ take k (outcome o .room)
+        → openVolume v base ≡ opened (stateOf guid len a base (pairs words) words)
     go (some m) p w t = let z : _≡_ {A = ℕ} 0 1 = cc in absurd (omega arith)
     go none p w t =
         let e : length header ≡ k = cc in
@@ -270,14 +272,17 @@ round-trip guid len a words room g small below k wrote v lent starts base mapped
 
 -- the words of a header that was written sum to 0 modulo 65,536
 pub written-sum-zero : (guid : List ℕ) (len a : ℕ) (words room : List ℕ) → length guid ≡ 16 → (k : ℕ)
-    → writeHeader guid len a words room .answer ≡ Written.Success k → wordSum (take k (writeHeader guid len a words room .room)) % 65536 ≡ 0
-unfolding writeHeader writtenBy
-written-sum-zero guid len a words room g k wrote = go (firstRefusal (writeRefusals len a words (length room))) wrote
+    → writeHeader guid len a words room .answer ≡ success (k ∷ []) → wordSum (take k (writeHeader guid len a words room .room)) % wordModulus ≡ 0
+unfolding writeHeader
+written-sum-zero guid len a words room g k done = go (firstRefusal (writeRefusals len a words (length room))) done
   where
     header : List ℕ
     header = headerBytes guid len a words
 
-    go : (o : Option ℕ) → writtenBy o header room .answer ≡ Written.Success k → wordSum (take k (writtenBy o header room .room)) % 65536 ≡ 0
+    outcome : Option ℕ → HeaderWritten
+    outcome o = unlessRefused (λ n. wrote (refused n) room) o (wrote (success (length header ∷ [])) (header ++ drop (length header) room))
+
+    go : (o : Option ℕ) → outcome o .answer ≡ success (k ∷ []) → wordSum (take k (outcome o .room)) % wordModulus ≡ 0
     go (some m) w = let z : _≡_ {A = ℕ} 0 1 = cc in absurd (omega arith)
     go none w =
         let e : length header ≡ k = cc in

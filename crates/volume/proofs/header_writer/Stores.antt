@@ -2,19 +2,19 @@
 use Prim.Native.Nat.{ℕ, suc, _+_, _*_, _/_, _%_, _≤_, _<_}
 use mathlib.Core.Path.{_≡_, refl, sym, ap, _∙_}
 use mathlib.Core.List.{List, [], _∷_, _++_, append-assoc}
-use mathlib.Core.Option.{Option, none, some}
+use mathlib.Core.Option.{none, some}
 use native.Mathlib.Numerals.{add-one}
 use native.Mathlib.Omega.{arith}
 use lib.ListN.{length, getD, drop, replicate, drop-of-length-le, length-append, length-replicate}
 use lib.Seq.{sets, drop-cons}
-use Rattle.common.specs.Refusals.{firstRefusal, refusalNumber}
+use Rattle.common.specs.Answers.{refused, success}
+use Rattle.common.specs.Refusals.{firstRefusal}
 use Rattle.common.proofs.Lists.{sets-append, sets-over, sets-front}
 use Rattle.numbers.specs.LittleEndian.{leBytes}
 use Rattle.numbers.proofs.LittleEndian.{length-leBytes}
 use Rattle.volume.specs.BlockMap.{headerLength}
 use Rattle.volume.specs.Header.{signature, wordSum}
-use Rattle.volume.specs.HeaderWriter.{wordsBytes, headerFront, headerWith, headerBytes, reservedAndRevision, checksum, writeRefusals, writtenBy, writtenNumber, writeHeader}
-use Rattle.volume.specs.declared.header_writer.Written.the-variants as Written
+use Rattle.volume.specs.HeaderWriter.{wordsBytes, headerFront, headerWith, headerBytes, reservedAndRevision, checksum, writeRefusals, wrote, writeHeader}
 
 -- the stores of map words from place i on: the word there and then the rest, or only what follows the map
 pub words-next : (m r z : List ℕ) (i : ℕ) → i < length m
@@ -36,19 +36,22 @@ pub words-end : (m r z : List ℕ) (at i : ℕ) → length m ≤ i → sets r at
 unfolding wordsBytes
 words-end m r z at i h = rw (drop-of-length-le m {i = i} h)
 
--- the stores of the fields are the header's first 56 bytes, with 0 for the checksum
-pub fields-stored : (r guid : List ℕ) (len a n : ℕ) → length guid ≡ 16
-    → sets (sets (sets (sets (sets (sets (sets (sets (sets r 0 (leBytes 8 0)) 8 (leBytes 8 0)) 16 guid) 32 (leBytes 8 len)) 40 (leBytes 4 0x4856465F)) 44 (leBytes 4 a)) 48 (leBytes 2 (64 + 8 * n))) 50 (leBytes 2 0)) 52 (leBytes 4 0x01000000)
-    ≡ sets r 0 (headerFront guid len a n ++ (leBytes 2 0 ++ reservedAndRevision))
-unfolding headerFront leBytes
-fields-stored r guid len a n e =
-    let z : List ℕ = sets r 0 (replicate 16 0) in
-    let x : List ℕ = leBytes 8 len ++ (leBytes 4 signature ++ (leBytes 4 a ++ leBytes 2 (headerLength n))) in
-    let y : List ℕ = leBytes 2 0 ++ reservedAndRevision in
-    sym
-    (ap (λ (l : List ℕ). sets z 16 l) (append-assoc guid x y)
-    ∙ sets-append guid (x ++ y) z 16
-    ∙ ap (λ (k : ℕ). sets (sets z 16 guid) (16 + k) (x ++ y)) e)
+-- nine stores in a row, of the fields with 0 for the checksum, are the header's first 56 bytes
+module _ (r guid : List ℕ) (len a h : ℕ) (sixteen : length guid ≡ 16) where
+  pub fields-stored : (r1 r2 r3 r4 r5 r6 r7 r8 r9 : List ℕ) → r1 ≡ sets r 0 (leBytes 8 0) → r2 ≡ sets r1 8 (leBytes 8 0) → r3 ≡ sets r2 16 guid
+      → r4 ≡ sets r3 32 (leBytes 8 len) → r5 ≡ sets r4 40 (leBytes 4 signature) → r6 ≡ sets r5 44 (leBytes 4 a) → r7 ≡ sets r6 48 (leBytes 2 h)
+      → r8 ≡ sets r7 50 (leBytes 2 0) → r9 ≡ sets r8 52 (leBytes 4 0x01000000)
+      → r9 ≡ sets r 0 (headerFront guid len a h ++ (leBytes 2 0 ++ reservedAndRevision))
+  unfolding headerFront leBytes
+  fields-stored r1 r2 r3 r4 r5 r6 r7 r8 r9 e1 e2 e3 e4 e5 e6 e7 e8 e9 =
+      let z : List ℕ = sets r 0 (replicate 16 0) in
+      let x : List ℕ = leBytes 8 len ++ (leBytes 4 signature ++ (leBytes 4 a ++ leBytes 2 h)) in
+      let y : List ℕ = leBytes 2 0 ++ reservedAndRevision in
+      rw (e9, e8, e7, e6, e5, e4, e3, e2, e1)
+      (sym
+      (ap (λ (l : List ℕ). sets z 16 l) (append-assoc guid x y)
+      ∙ sets-append guid (x ++ y) z 16
+      ∙ ap (λ (k : ℕ). sets (sets z 16 guid) (16 + k) (x ++ y)) sixteen))
 
 -- ---- the header's length
 
@@ -57,28 +60,28 @@ unfolding wordsBytes
 length-wordsBytes [] = refl
 length-wordsBytes (w ∷ m) = rw (length-append (leBytes 4 w) (wordsBytes m), length-leBytes 4 w, length-wordsBytes m) (omega arith)
 
-pub length-front : (guid : List ℕ) (len a n : ℕ) → length guid ≡ 16 → length (headerFront guid len a n) ≡ 50
+pub length-front : (guid : List ℕ) (len a h : ℕ) → length guid ≡ 16 → length (headerFront guid len a h) ≡ 50
 unfolding headerFront
-length-front guid len a n e = simp (length-append, length-replicate, length-leBytes, e)
+length-front guid len a h e = simp (length-append, length-replicate, length-leBytes, e)
 
 pub length-header : (sum : ℕ) (guid : List ℕ) (len a : ℕ) (words : List ℕ) → length guid ≡ 16 → length words % 2 ≡ 0
     → length (headerWith sum guid len a words) ≡ 64 + 8 * (length words / 2)
 unfolding headerWith
 length-header sum guid len a words e even =
-    simp (length-append, length-leBytes, length-front guid len a (length words / 2) e, length-wordsBytes) (omega arith)
+    simp (length-append, length-leBytes, length-front guid len a (headerLength (length words / 2)) e, length-wordsBytes) (omega arith)
 
 -- ---- what the stores make
 
 -- fields, then map: the header with 0 for its checksum, and the rest of the room
 pub header-stored : (r guid : List ℕ) (len a : ℕ) (words : List ℕ) → length guid ≡ 16 → length words % 2 ≡ 0 → 64 + 8 * (length words / 2) ≤ length r
-    → sets (sets r 0 (headerFront guid len a (length words / 2) ++ (leBytes 2 0 ++ reservedAndRevision))) 56 (wordsBytes words ++ replicate 8 0)
+    → sets (sets r 0 (headerFront guid len a (headerLength (length words / 2)) ++ (leBytes 2 0 ++ reservedAndRevision))) 56 (wordsBytes words ++ replicate 8 0)
     ≡ headerWith 0 guid len a words ++ drop (64 + 8 * (length words / 2)) r
 unfolding headerWith
 header-stored r guid len a words e even fits =
-    let f : List ℕ = headerFront guid len a (length words / 2) in
+    let f : List ℕ = headerFront guid len a (headerLength (length words / 2)) in
     let z : List ℕ = leBytes 2 0 ++ reservedAndRevision in
     let m : List ℕ = wordsBytes words ++ replicate 8 0 in
-    let six : 0 + length (f ++ z) ≡ 56 = simp (length-append, length-leBytes, length-front guid len a (length words / 2) e) in
+    let six : 0 + length (f ++ z) ≡ 56 = simp (length-append, length-leBytes, length-front guid len a (headerLength (length words / 2)) e) in
     let whole = length-header 0 guid len a words e even in
     sym (sets-append (f ++ z) m r 0 ∙ ap (λ (k : ℕ). sets (sets r 0 (f ++ z)) k m) six)
     ∙ ap (λ (l : List ℕ). sets r 0 l) (append-assoc f z m ∙ ap (λ (l : List ℕ). f ++ l) (append-assoc (leBytes 2 0) reservedAndRevision m))
@@ -90,39 +93,27 @@ pub checksum-stored : (sum : ℕ) (guid : List ℕ) (len a : ℕ) (words rest : 
     → sets (headerWith 0 guid len a words ++ rest) 50 (leBytes 2 sum) ≡ headerWith sum guid len a words ++ rest
 unfolding headerWith
 checksum-stored sum guid len a words rest e =
-    let f : List ℕ = headerFront guid len a (length words / 2) in
+    let f : List ℕ = headerFront guid len a (headerLength (length words / 2)) in
     let b : List ℕ = reservedAndRevision ++ (wordsBytes words ++ replicate 8 0) in
     let same : length (leBytes 2 0) ≡ length (leBytes 2 sum) = length-leBytes 2 0 ∙ sym (length-leBytes 2 sum) in
     let regroup : (x : List ℕ) → (f ++ (x ++ b)) ++ rest ≡ f ++ (x ++ (b ++ rest)) = λ x. append-assoc f (x ++ b) rest ∙ ap (λ (l : List ℕ). f ++ l) (append-assoc x b rest) in
     ap (λ (l : List ℕ). sets l 50 (leBytes 2 sum)) (regroup (leBytes 2 0))
-    ∙ ap (λ (k : ℕ). sets (f ++ (leBytes 2 0 ++ (b ++ rest))) k (leBytes 2 sum)) (sym (length-front guid len a (length words / 2) e))
+    ∙ ap (λ (k : ℕ). sets (f ++ (leBytes 2 0 ++ (b ++ rest))) k (leBytes 2 sum)) (sym (length-front guid len a (headerLength (length words / 2)) e))
     ∙ sets-over f (leBytes 2 0) (leBytes 2 sum) (b ++ rest) same
     ∙ sym (regroup (leBytes 2 sum))
 
 -- ---- the answers
 
--- a refusal leaves the room
-pub write-refused : (n : ℕ) (guid : List ℕ) (len a : ℕ) (words room : List ℕ) → firstRefusal (writeRefusals len a words (length room)) ≡ some n
-    → (Written.Refused n ≡ writeHeader guid len a words room .answer) × (room ≡ writeHeader guid len a words room .room)
-unfolding writeHeader writtenBy
-write-refused n guid len a words room e = rw e (refl, refl)
+module _ (guid : List ℕ) (len a : ℕ) (words room : List ℕ) where
+  -- a refusal leaves the room
+  pub write-refused : (n : ℕ) → firstRefusal (writeRefusals len a words (length room)) ≡ some n
+      → wrote (refused n) room ≡ writeHeader guid len a words room
+  unfolding writeHeader
+  write-refused n e = rw e
 
--- success stores the header
-pub write-done : (guid : List ℕ) (len a : ℕ) (words room : List ℕ) → length guid ≡ 16 → length words % 2 ≡ 0
-    → firstRefusal (writeRefusals len a words (length room)) ≡ none
-    → (Written.Success (64 + 8 * (length words / 2)) ≡ writeHeader guid len a words room .answer)
-    × (headerBytes guid len a words ++ drop (64 + 8 * (length words / 2)) room ≡ writeHeader guid len a words room .room)
-unfolding writeHeader writtenBy headerBytes
-write-done guid len a words room g even e =
-    let l = length-header (checksum (wordSum (headerWith 0 guid len a words))) guid len a words g even in
-    rw (e, l) (refl, refl)
-
--- the number of the answer is that of the first row that applies, 0 where none does
-pub written-number : (guid : List ℕ) (len a : ℕ) (words room : List ℕ)
-    → writtenNumber (writeHeader guid len a words room .answer) ≡ refusalNumber (firstRefusal (writeRefusals len a words (length room)))
-unfolding writeHeader writtenBy writtenNumber refusalNumber
-written-number guid len a words room = go (firstRefusal (writeRefusals len a words (length room)))
-  where
-    go : (o : Option ℕ) → writtenNumber (writtenBy o (headerBytes guid len a words) room .answer) ≡ refusalNumber o
-    go none = refl
-    go (some n) = refl
+  -- success stores the header
+  pub write-done : length guid ≡ 16 → length words % 2 ≡ 0 → firstRefusal (writeRefusals len a words (length room)) ≡ none
+      → wrote (success (headerLength (length words / 2) ∷ [])) (headerBytes guid len a words ++ drop (headerLength (length words / 2)) room)
+      ≡ writeHeader guid len a words room
+  unfolding writeHeader headerBytes
+  write-done g even e = rw (e, length-header (checksum (wordSum (headerWith 0 guid len a words))) guid len a words g even)

@@ -22,7 +22,6 @@ returns-3 c = simp (lt-ltb _ _ (c .if3 .taken), or-true)
 header-length-requires : tie.Need-header-length-requires
 header-length-requires c κs = search needs
 
-
 returns-4 : tie.Need-returns-4
 unfolding sizeFault any
 returns-4 c = simp (lt-ltb _ _ (rw (c .before .header-length .ensures) at (c .if4 .taken)), or-true)

@@ -1,49 +1,65 @@
 -- `volume::header::bytes_refusal` meets its contract: each return is the first row of the table whose test holds.
 use mathlib.Core.Path.{_≡_, sym, _∙_}
 use mathlib.Core.Bool.{true, false}
+use mathlib.Core.List.{List}
+use Prim.Native.Nat.{ℕ}
 use borrow.Author.Tests.{eq-eqb, ne-eqb, lt-ltb, le-ltb}
 use borrow.Author.Needs.{needs}
 use denote.Ref.{now}
 use lib.Seq.{length-take-le}
 use lib.Dec.{eqb, ltb}
-use lib.ListN.{length, getD}
+use lib.ListN.{length}
 use Rattle.common.specs.Refusals.{firstRefusal}
-use Rattle.numbers.specs.LittleEndian.{le}
-use Rattle.volume.specs.Header.{headerLengthAt, headerLengthFault, signature, answered, openRefusals}
+use Rattle.volume.specs.Header.{headerLengthAt, headerLengthFault, minHeader, openRefusals, refusalOf, revision, revisionAt, signature, signatureAt}
 use Rattle.volume.proofs.header.Fields.{header-length-passed}
 use Rattle.volume.proofs.header.bytes_refusal.Statement.{statement}
 use Rattle.volume.proofs.header.bytes_refusal.Tie as tie
 
+-- the places behind each test, one from the next, and the bytes
+abbrev one : tie.Else2 → tie.Else1
+one c = c .before .before
+
+abbrev two : tie.Else3 → tie.Else2
+two c = c .before .before
+
+abbrev three : tie.Else4 → tie.Else3
+three c = c .before .before .before
+
+abbrev bytes : tie.Else1 → List ℕ
+bytes c = now (c .before .before .args .s)
+
 -- the tests that each next one stands behind, as the table has them
-long : (c : tie.Else1) → ltb (length (now (c .before .before .args .s))) 72 ≡ false
+long : (c : tie.Else1) → ltb (length (bytes c)) minHeader ≡ false
 long c = le-ltb _ _ (c .if1 .left)
 
-signed : (c : tie.Else2) → eqb (le 4 (now (c .before .before .before .before .args .s)) 40) signature ≡ true
+signed : (c : tie.Else2) → eqb (signatureAt (bytes (one c))) signature ≡ true
 signed c = eq-eqb _ _ (sym (c .before .u32-at .ensures) ∙ c .if2 .left)
 
-revised : (c : tie.Else3) → eqb (getD (now (c .before .before .before .before .before .before .args .s)) 55 0) 1 ≡ true
+revised : (c : tie.Else3) → eqb (revisionAt (bytes (one (two c)))) revision ≡ true
 revised c = eq-eqb _ _ (sym (c .before .byte-at .ensures) ∙ c .if3 .left)
 
-measured : (c : tie.Else4) → headerLengthFault (headerLengthAt (now (c .before .before .before .before .before .before .before .before .before .args .s))) (length (now (c .before .before .before .before .before .before .before .before .before .args .s))) ≡ false
+measured : (c : tie.Else4) → let s = bytes (one (two (three c))) in headerLengthFault (headerLengthAt s) (length s) ≡ false
 measured c = rw (c .before .before .u16-at .ensures) at (sym (c .before .header-length-fault .ensures) ∙ c .if4 .left)
 
 returns : tie.Need-returns
-unfolding answered firstRefusal openRefusals
+unfolding refusalOf firstRefusal openRefusals
 returns c = simp (lt-ltb _ _ (c .if1 .taken))
 
 u32-at-requires : tie.Need-u32-at-requires
 u32-at-requires c κs = search needs
 
 returns-2 : tie.Need-returns-2
-unfolding answered firstRefusal openRefusals
+unfolding refusalOf firstRefusal openRefusals
 returns-2 c = simp (long (c .before .before), ne-eqb _ _ (λ e. c .if2 .taken (c .before .u32-at .ensures ∙ e)))
 
 byte-at-requires : tie.Need-byte-at-requires
 byte-at-requires c κs = search needs
 
 returns-3 : tie.Need-returns-3
-unfolding answered firstRefusal openRefusals
-returns-3 c = simp (long (c .before .before .before .before), signed (c .before .before), ne-eqb _ _ (λ e. c .if3 .taken (c .before .byte-at .ensures ∙ e)))
+unfolding refusalOf firstRefusal openRefusals
+returns-3 c =
+    let behind = c .before .before in
+    simp (long (one behind), signed behind, ne-eqb _ _ (λ e. c .if3 .taken (c .before .byte-at .ensures ∙ e)))
 
 u16-at-requires : tie.Need-u16-at-requires
 u16-at-requires c κs = search needs
@@ -55,24 +71,50 @@ header-length-fault-requires : tie.Need-header-length-fault-requires
 header-length-fault-requires c κs = search needs
 
 returns-4 : tie.Need-returns-4
-unfolding answered firstRefusal openRefusals
-returns-4 c = simp (long (c .before .before .before .before .before .before .before), signed (c .before .before .before .before .before), revised (c .before .before .before), rw (c .before .before .u16-at .ensures) at (sym (c .before .header-length-fault .ensures) ∙ c .if4 .taken))
+unfolding refusalOf firstRefusal openRefusals
+returns-4 c =
+    let behind = c .before .before .before in
+    simp (
+      long (one (two behind)),
+      signed (two behind),
+      revised behind,
+      rw (c .before .before .u16-at .ensures) at (sym (c .before .header-length-fault .ensures) ∙ c .if4 .taken),
+    )
 
 slice-aggregate-word-sum : tie.Need-slice-aggregate-word-sum
-slice-aggregate-word-sum c = sym (length-take-le _ _ (header-length-passed _ _ (sym (c .before .before .header-length-fault .ensures) ∙ c .before .if4 .left) .2))
+slice-aggregate-word-sum c =
+    let behind = c .before in
+    sym (length-take-le _ _ (header-length-passed _ _ (sym (behind .before .header-length-fault .ensures) ∙ behind .if4 .left) .2))
 
 word-sum-requires : tie.Need-word-sum-requires
 word-sum-requires c κs =
-    let h = header-length-passed _ _ (sym (c .before .before .header-length-fault .ensures) ∙ c .before .if4 .left) in
+    let behind = c .before in
+    let h = header-length-passed _ _ (sym (behind .before .header-length-fault .ensures) ∙ behind .if4 .left) in
     rw (length-take-le _ _ (h .2)) (h .1)
 
 returns-5 : tie.Need-returns-5
-unfolding answered firstRefusal openRefusals
-returns-5 c = simp (long (c .before .before .before .before .before .before .before .before .before .before), signed (c .before .before .before .before .before .before .before .before), revised (c .before .before .before .before .before .before), measured (c .before .before .before), ne-eqb _ _ (λ e. c .if5 .taken (rw (c .before .word-sum .ensures, c .before .before .before .before .before .u16-at .ensures) e)))
+unfolding refusalOf firstRefusal openRefusals
+returns-5 c =
+    let behind = c .before .before .before in
+    simp (
+      long (one (two (three behind))),
+      signed (two (three behind)),
+      revised (three behind),
+      measured behind,
+      ne-eqb _ _ (λ e. c .if5 .taken (rw (c .before .word-sum .ensures, behind .before .before .u16-at .ensures) e)),
+    )
 
 returns-6 : tie.Need-returns-6
-unfolding answered firstRefusal openRefusals
-returns-6 c = simp (long (c .before .before .before .before .before .before .before .before .before .before), signed (c .before .before .before .before .before .before .before .before), revised (c .before .before .before .before .before .before), measured (c .before .before .before), eq-eqb _ _ (rw (c .before .word-sum .ensures, c .before .before .before .before .before .u16-at .ensures) at (c .if5 .left)))
+unfolding refusalOf firstRefusal openRefusals
+returns-6 c =
+    let behind = c .before .before .before in
+    simp (
+      long (one (two (three behind))),
+      signed (two (three behind)),
+      revised (three behind),
+      measured behind,
+      eq-eqb _ _ (rw (c .before .word-sum .ensures, behind .before .before .u16-at .ensures) at (c .if5 .left)),
+    )
 
 pub bytes-refusal-spec : {M : Type 1} → statement M
 bytes-refusal-spec =

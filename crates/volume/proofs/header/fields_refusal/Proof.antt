@@ -1,6 +1,8 @@
 -- `volume::header::fields_refusal` meets its contract: each return is the first row of the table whose test holds.
+use Prim.Native.Nat.{ℕ}
 use mathlib.Core.Path.{_≡_, sym, _∙_}
 use mathlib.Core.Bool.{false}
+use mathlib.Core.List.{List}
 use native.Mathlib.Omega.{arith}
 use borrow.Author.Tests.{eq-eqb, ne-eqb, lt-ltb, le-ltb}
 use borrow.Author.Needs.{needs}
@@ -11,7 +13,8 @@ use Rattle.common.specs.Refusals.{firstRefusal}
 use Rattle.volume.specs.Attributes.{attributesFault}
 use Rattle.volume.specs.BlockMap.{hasZero, sizeFault}
 use Rattle.volume.specs.State.{mapOf}
-use Rattle.volume.specs.Header.{answered, openRefusals, mapFault}
+use Rattle.volume.specs.Header.{openRefusals, mapFault, refusalOf}
+use Rattle.volume.specs.declared.state.State.{State}
 use Rattle.volume.proofs.header.fields_refusal.Statement.{statement}
 use Rattle.volume.proofs.header.fields_refusal.Tie as tie
 
@@ -19,20 +22,41 @@ use Rattle.volume.proofs.header.fields_refusal.Tie as tie
 map-length : (c : tie.Start) → length (c .args .st .map) ≡ 64
 map-length c = search needs
 
+-- the places behind each test, one from the next; the state and the bytes
+abbrev one : tie.Else2 → tie.Else1
+one c = c .before .before
+
+abbrev two : tie.Else3 → tie.Else2
+two c = c .before .before .before
+
+abbrev three : tie.Else4 → tie.Else3
+three c = c .before .before
+
+abbrev start : tie.Else1 → tie.Start
+start c = c .before .before .before .before .before .before
+
+abbrev state : tie.Else1 → State
+state c = start c .args .st
+
+abbrev bytes : tie.Else1 → List ℕ
+bytes c = now (start c .args .s)
+
 -- the tests that each next one stands behind, as the table has them
-nonzero : (c : tie.Else1) → hasZero (mapOf (c .before .before .before .before .before .before .args .st)) ≡ false
+nonzero : (c : tie.Else1) → hasZero (mapOf (state c)) ≡ false
 unfolding mapOf
 nonzero c = sym (c .before .has-zero .ensures) ∙ c .if1 .left
 
-mapped : (c : tie.Else2) → mapFault (now (c .before .before .before .before .before .before .before .before .args .s)) (c .before .before .before .before .before .before .before .before .args .st) ≡ false
+mapped : (c : tie.Else2) → mapFault (bytes (one c)) (state (one c)) ≡ false
 unfolding mapFault
-mapped c = rw (nonzero (c .before .before), eq-eqb _ _ (rw (c .before .u64-at .ensures, c .before .before .before .before .before .u16-at .ensures) at (c .if2 .left)))
+mapped c =
+    let behind = one c in
+    rw (nonzero behind, eq-eqb _ _ (rw (c .before .u64-at .ensures, behind .before .before .before .u16-at .ensures) at (c .if2 .left)))
 
-sized : (c : tie.Else3) → sizeFault (c .before .before .before .before .before .before .before .before .before .before .before .args .st .entries) (mapOf (c .before .before .before .before .before .before .before .before .before .before .before .args .st)) (c .before .before .before .before .before .before .before .before .before .before .before .args .st .length) ≡ false
+sized : (c : tie.Else3) → let st = state (one (two c)) in sizeFault (st .entries) (mapOf st) (st .length) ≡ false
 unfolding mapOf
-sized c = sym (c .before .size-fault .ensures) ∙ c .if3 .left
+sized c = rw (nonzero (one (two c))) at (sym (c .before .map-fault .ensures) ∙ c .if3 .left)
 
-allowed : (c : tie.Else4) → attributesFault (c .before .before .before .before .before .before .before .before .before .before .before .before .before .args .st .attributes) ≡ false
+allowed : (c : tie.Else4) → attributesFault (state (one (two (three c))) .attributes) ≡ false
 allowed c = sym (c .before .attributes-fault .ensures) ∙ c .if4 .left
 
 mul-end : tie.Need-mul-end
@@ -57,50 +81,79 @@ has-zero-requires : tie.Need-has-zero-requires
 has-zero-requires c κs = search needs
 
 returns : tie.Need-returns
-unfolding answered firstRefusal openRefusals mapFault mapOf
+unfolding refusalOf firstRefusal openRefusals mapFault mapOf
 returns c = simp (sym (c .before .has-zero .ensures) ∙ c .if1 .taken)
 
 u64-at-requires : tie.Need-u64-at-requires
 u64-at-requires c κs = search needs
 
 returns-2 : tie.Need-returns-2
-unfolding answered firstRefusal openRefusals mapFault
-returns-2 c = simp (nonzero (c .before .before), ne-eqb _ _ (λ e. c .if2 .taken (rw (c .before .u64-at .ensures, c .before .before .before .before .before .u16-at .ensures) e)))
+unfolding refusalOf firstRefusal openRefusals mapFault
+returns-2 c =
+    let behind = c .before .before in
+    simp (
+      nonzero behind,
+      ne-eqb _ _ (λ e. c .if2 .taken (rw (c .before .u64-at .ensures, behind .before .before .before .u16-at .ensures) e)),
+    )
 
 array-share-prefix-map-2 : tie.Need-array-share-prefix-map-2
-array-share-prefix-map-2 c = omega (arith, map-length (c .before .before .before .before .before .before .before .before))
+array-share-prefix-map-2 c = omega (arith, map-length (start (one c)))
 
-slice-aggregate-size-fault : tie.Need-slice-aggregate-size-fault
-slice-aggregate-size-fault c = sym (length-take-le _ _ (omega (arith, map-length (c .before .before .before .before .before .before .before .before .before))))
+slice-aggregate-map-fault : tie.Need-slice-aggregate-map-fault
+slice-aggregate-map-fault c = sym (length-take-le _ _ (omega (arith, map-length (start (one (c .before))))))
 
-size-fault-requires : tie.Need-size-fault-requires
-size-fault-requires c κs = length-take-le _ _ (omega (arith, map-length (c .before .before .before .before .before .before .before .before .before)))
+map-fault-requires : tie.Need-map-fault-requires
+map-fault-requires c κs = length-take-le _ _ (omega (arith, map-length (start (one (c .before)))))
 
 returns-3 : tie.Need-returns-3
-unfolding answered firstRefusal openRefusals mapOf
-returns-3 c = simp (mapped (c .before .before .before), sym (c .before .size-fault .ensures) ∙ c .if3 .taken)
+unfolding refusalOf firstRefusal openRefusals mapOf
+returns-3 c =
+    let behind = c .before .before .before in
+    simp (mapped behind, rw (nonzero (one behind)) at (sym (c .before .map-fault .ensures) ∙ c .if3 .taken))
 
 attributes-fault-requires : tie.Need-attributes-fault-requires
 attributes-fault-requires c κs = search needs
 
 returns-4 : tie.Need-returns-4
-unfolding answered firstRefusal openRefusals
-returns-4 c = simp (mapped (c .before .before .before .before .before), sized (c .before .before), sym (c .before .attributes-fault .ensures) ∙ c .if4 .taken)
+unfolding refusalOf firstRefusal openRefusals
+returns-4 c =
+    let behind = c .before .before in
+    simp (mapped (two behind), sized behind, sym (c .before .attributes-fault .ensures) ∙ c .if4 .taken)
 
 returns-5 : tie.Need-returns-5
-unfolding answered firstRefusal openRefusals
-returns-5 c = simp (mapped (c .before .before .before .before .before .before .before), sized (c .before .before .before .before), allowed (c .before .before), lt-ltb _ _ (c .if5 .taken))
+unfolding refusalOf firstRefusal openRefusals
+returns-5 c =
+    let behind = c .before .before in
+    simp (mapped (two (three behind)), sized (three behind), allowed behind, lt-ltb _ _ (c .if5 .taken))
 
 base-fault-requires : tie.Need-base-fault-requires
 base-fault-requires c κs = search needs
 
 returns-6 : tie.Need-returns-6
-unfolding answered firstRefusal openRefusals
-returns-6 c = simp (mapped (c .before .before .before .before .before .before .before .before .before), sized (c .before .before .before .before .before .before), allowed (c .before .before .before .before), le-ltb _ _ (c .before .before .if5 .left), sym (c .before .base-fault .ensures) ∙ c .if6 .taken)
+unfolding refusalOf firstRefusal openRefusals
+returns-6 c =
+    let long = c .before .before in
+    let behind = long .before .before in
+    simp (
+      mapped (two (three behind)),
+      sized (three behind),
+      allowed behind,
+      le-ltb _ _ (long .if5 .left),
+      sym (c .before .base-fault .ensures) ∙ c .if6 .taken,
+    )
 
 returns-7 : tie.Need-returns-7
-unfolding answered firstRefusal openRefusals
-returns-7 c = simp (mapped (c .before .before .before .before .before .before .before .before .before), sized (c .before .before .before .before .before .before), allowed (c .before .before .before .before), le-ltb _ _ (c .before .before .if5 .left), sym (c .before .base-fault .ensures) ∙ c .if6 .left)
+unfolding refusalOf firstRefusal openRefusals
+returns-7 c =
+    let long = c .before .before in
+    let behind = long .before .before in
+    simp (
+      mapped (two (three behind)),
+      sized (three behind),
+      allowed behind,
+      le-ltb _ _ (long .if5 .left),
+      sym (c .before .base-fault .ensures) ∙ c .if6 .left,
+    )
 
 pub fields-refusal-spec : {M : Type 1} → statement M
 fields-refusal-spec =
@@ -117,8 +170,8 @@ fields-refusal-spec =
     u64-at-requires
     returns-2
     array-share-prefix-map-2
-    slice-aggregate-size-fault
-    size-fault-requires
+    slice-aggregate-map-fault
+    map-fault-requires
     returns-3
     attributes-fault-requires
     returns-4

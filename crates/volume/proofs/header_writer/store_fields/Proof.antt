@@ -35,12 +35,6 @@ store-requires-4 c κs = search needs
 store-requires-5 : tie.Need-store-requires-5
 store-requires-5 c κs = search needs
 
-mul-store : tie.Need-mul-store
-mul-store c = search needs
-
-add-store : tie.Need-add-store
-add-store c = search needs
-
 store-requires-6 : tie.Need-store-requires-6
 store-requires-6 c κs = search needs
 
@@ -50,33 +44,65 @@ store-requires-7 c κs = search needs
 store-requires-8 : tie.Need-store-requires-8
 store-requires-8 c κs = search needs
 
+-- the places after each store, the last first, one from the next
+module _ (c : tie.After-room9) where
+  abbrev at8 : tie.After-store8
+  at8 = c .before
+
+  abbrev at7 : tie.After-store7
+  at7 = at8 .before .before .before .before
+
+  abbrev at6 : tie.After-store6
+  at6 = at7 .before .before .before .before
+
+  abbrev at5 : tie.After-store5
+  at5 = at6 .before .before .before .before
+
+  abbrev at4 : tie.After-store4
+  at4 = at5 .before .before .before .before
+
+  abbrev at3 : tie.After-store3
+  at3 = at4 .before .before .before .before
+
+  abbrev guided : tie.After-store-bytes
+  guided = at3 .before .before .before .before
+
+  abbrev at2 : tie.After-store2
+  at2 = guided .before .before .before .before .before
+
+  abbrev at1 : tie.After-store
+  at1 = at2 .before .before .before .before
+
+  abbrev start : tie.Start
+  start = at1 .before .before .before
+
 same-length : tie.Need-same-length
 same-length c =
-    c .before .before .store8 .kept .0
-    ∙ c .before .before .before .before .before .before .store7 .kept .0
-    ∙ c .before .before .before .before .before .before .before .before .before .before .store6 .kept .0
-    ∙ c .before .before .before .before .before .before .before .before .before .before .before .before .before .before .store5 .kept .0
-    ∙ c .before .before .before .before .before .before .before .before .before .before .before .before .before .before .before .before .before .before .store4 .kept .0
-    ∙ c .before .before .before .before .before .before .before .before .before .before .before .before .before .before .before .before .before .before .before .before .before .before .store3 .kept .0
-    ∙ c .before .before .before .before .before .before .before .before .before .before .before .before .before .before .before .before .before .before .before .before .before .before .before .before .before .before .store-bytes .kept .0
-    ∙ c .before .before .before .before .before .before .before .before .before .before .before .before .before .before .before .before .before .before .before .before .before .before .before .before .before .before .before .before .before .before .before .store2 .kept .0
-    ∙ c .before .before .before .before .before .before .before .before .before .before .before .before .before .before .before .before .before .before .before .before .before .before .before .before .before .before .before .before .before .before .before .before .before .before .before .store .kept .0
+    let r = c .before in
+    at8 r .store8 .kept .0
+    ∙ at7 r .store7 .kept .0
+    ∙ at6 r .store6 .kept .0
+    ∙ at5 r .store5 .kept .0
+    ∙ at4 r .store4 .kept .0
+    ∙ at3 r .store3 .kept .0
+    ∙ guided r .store-bytes .kept .0
+    ∙ at2 r .store2 .kept .0
+    ∙ at1 r .store .kept .0
 
 returns : tie.Need-returns
 returns c =
-    let a = c .before .before .before .before .before .before .before .before .before .before .before .before .before .before .before .before .before .before .before .before .before .before .before .before .before .before .before .before .before .before .before .before .before .before .before .before .before .before .args in
-    rw (
-      c .before .before .store8 .ensures,
-      c .before .before .before .before .before .before .store7 .ensures,
-      c .before .before .before .before .before .before .before .before .before .before .store6 .ensures,
-      c .before .before .before .before .before .before .before .before .before .before .before .before .before .before .store5 .ensures,
-      c .before .before .before .before .before .before .before .before .before .before .before .before .before .before .before .before .before .before .store4 .ensures,
-      c .before .before .before .before .before .before .before .before .before .before .before .before .before .before .before .before .before .before .before .before .before .before .store3 .ensures,
-      c .before .before .before .before .before .before .before .before .before .before .before .before .before .before .before .before .before .before .before .before .before .before .before .before .before .before .store-bytes .ensures,
-      c .before .before .before .before .before .before .before .before .before .before .before .before .before .before .before .before .before .before .before .before .before .before .before .before .before .before .before .before .before .before .before .store2 .ensures,
-      c .before .before .before .before .before .before .before .before .before .before .before .before .before .before .before .before .before .before .before .before .before .before .before .before .before .before .before .before .before .before .before .before .before .before .before .store .ensures,
-    )
-    (fields-stored (now (a .room)) (a .t1) (a .len) (a .attributes) (a .n) (guid-length (c .before .before .before .before .before .before .before .before .before .before .before .before .before .before .before .before .before .before .before .before .before .before .before .before .before .before .before .before .before .before .before .before .before .before .before .before .before .before)))
+    let r = c .before in
+    let a = start r .args in
+    fields-stored (now (a .room)) (a .t1) (a .len) (a .attributes) (a .header) (guid-length (start r)) _ _ _ _ _ _ _ _ _
+    (at1 r .store .ensures)
+    (at2 r .store2 .ensures)
+    (guided r .store-bytes .ensures)
+    (at3 r .store3 .ensures)
+    (at4 r .store4 .ensures)
+    (at5 r .store5 .ensures)
+    (at6 r .store6 .ensures)
+    (at7 r .store7 .ensures)
+    (at8 r .store8 .ensures)
 
 pub store-fields-spec : {M : Type 1} → statement M
 store-fields-spec =
@@ -90,8 +116,6 @@ store-fields-spec =
     cast-store
     store-requires-4
     store-requires-5
-    mul-store
-    add-store
     store-requires-6
     store-requires-7
     store-requires-8

@@ -1,8 +1,8 @@
 -- `volume::header_writer::write_header` meets its contract: each refusal is the first row that holds; else the stores make the header, then its checksum.
-use Prim.Native.Nat.{ℕ, _+_, _*_, _/_}
+use Prim.Native.Nat.{ℕ, _≤_}
 use mathlib.Core.Path.{_≡_, sym, ap, _∙_}
 use mathlib.Core.Bool.{false, or-true}
-use mathlib.Core.List.{List, _++_}
+use mathlib.Core.List.{List, [], _∷_, _++_}
 use mathlib.Core.Option.{none}
 use native.Mathlib.Omega.{arith}
 use borrow.Author.Tests.{eq-eqb, ne-eqb, lt-ltb, le-ltb}
@@ -10,13 +10,14 @@ use borrow.Author.Needs.{needs}
 use denote.Ref.{now}
 use lib.ListN.{take, length, drop, replicate}
 use lib.Seq.{take-at, sets}
+use Rattle.common.specs.Answers.{success}
 use Rattle.common.specs.Refusals.{firstRefusal}
 use Rattle.numbers.specs.LittleEndian.{leBytes}
-use Rattle.volume.specs.Header.{wordSum}
-use Rattle.volume.specs.HeaderWriter.{checksum, headerBytes, wordsFault, writeRefusals, wordsBytes, headerWith}
 use Rattle.volume.specs.Attributes.{attributesFault}
-use Rattle.volume.specs.BlockMap.{sizeFault}
-use Rattle.volume.proofs.block_map.Words.{size-passed}
+use Rattle.volume.specs.BlockMap.{headerLength, sizeFault}
+use Rattle.volume.specs.Header.{mapStart, wordSum}
+use Rattle.volume.specs.HeaderWriter.{checksum, headerBytes, headerFront, headerWith, pairs, reservedAndRevision, wordsBytes, wordsFault, writeRefusals, writtenAnswer, wrote}
+use Rattle.volume.proofs.block_map.Words.{Sized, size-passed}
 use Rattle.volume.proofs.header_writer.Stores.{write-refused, write-done, header-stored, checksum-stored, length-header}
 use Rattle.volume.proofs.header_writer.write_header.Statement.{statement}
 use Rattle.volume.proofs.header_writer.write_header.Tie as tie
@@ -25,90 +26,158 @@ use Rattle.volume.proofs.header_writer.write_header.Tie as tie
 guid-length : (c : tie.Start) → length (c .args .guid) ≡ 16
 guid-length c = search needs
 
+-- the places behind each test, one from the next, and the arguments
+abbrev start : tie.Else2 → tie.Start
+start c = c .before .before .before .before .before
+
+abbrev two : tie.Else3 → tie.Else2
+two c = c .before .before
+
+abbrev three : tie.Else4 → tie.Else3
+three c = c .before .before
+
+abbrev four : tie.Else5 → tie.Else4
+four c = c .before .before
+
+abbrev words : tie.Else2 → List ℕ
+words c = now (start c .args .map)
+
 -- the tests that each next one stands behind, as the table has them
-words-ok : (c : tie.Else2) → wordsFault (now (c .before .before .before .before .before .args .map)) ≡ false
+words-ok : (c : tie.Else2) → wordsFault (words c) ≡ false
 unfolding wordsFault
 words-ok c = rw (sym (c .before .before .has-zero .ensures) ∙ c .before .if1 .left, eq-eqb _ _ (c .if2 .left))
 
-sized : (c : tie.Else3) → sizeFault (length (now (c .before .before .before .before .before .before .before .args .map)) / 2) (now (c .before .before .before .before .before .before .before .args .map)) (c .before .before .before .before .before .before .before .args .len) ≡ false
-sized c = sym (c .before .size-fault .ensures) ∙ c .if3 .left
+sized : (c : tie.Else3) → sizeFault (pairs (words (two c))) (words (two c)) (start (two c) .args .len) ≡ false
+sized c = rw (sym (two c .before .before .has-zero .ensures) ∙ two c .before .if1 .left) at (sym (c .before .map-fault .ensures) ∙ c .if3 .left)
 
-allowed : (c : tie.Else4) → attributesFault (c .before .before .before .before .before .before .before .before .before .args .attributes) ≡ false
+allowed : (c : tie.Else4) → attributesFault (start (two (three c)) .args .attributes) ≡ false
 allowed c = sym (c .before .attributes-fault .ensures) ∙ c .if4 .left
 
-roomy : (c : tie.Else5) → firstRefusal (writeRefusals (c .before .before .before .before .before .before .before .before .before .before .args .len) (c .before .before .before .before .before .before .before .before .before .before .args .attributes) (now (c .before .before .before .before .before .before .before .before .before .before .args .map)) (length (now (c .before .before .before .before .before .before .before .before .before .before .args .room)))) ≡ none
-unfolding firstRefusal writeRefusals
-roomy c = simp (words-ok (c .before .before .before .before .before), sized (c .before .before .before), allowed (c .before), le-ltb _ _ (c .if5 .left))
+-- an accepted request: the arguments, their sizes, and the header that they make
+module _ (c : tie.Else5) where
+  abbrev behind : tie.Else2
+  behind = two (three (four c))
+
+  abbrev guid : List ℕ
+  guid = start behind .args .guid
+
+  abbrev room : List ℕ
+  room = now (start behind .args .room)
+
+  abbrev header : ℕ → List ℕ
+  header sum = headerWith sum guid (start behind .args .len) (start behind .args .attributes) (words behind)
+
+  abbrev long : ℕ
+  long = c .before .header-length .result
+
+  long-is : long ≡ headerLength (pairs (words behind))
+  long-is = c .before .header-length .ensures
+
+  fits : Sized (pairs (words behind)) (words behind) (start behind .args .len)
+  fits = size-passed _ _ _ (sized (three (four c)))
+
+  within : headerLength (pairs (words behind)) ≤ length room
+  within = search needs
+
+  roomy : firstRefusal (writeRefusals (start behind .args .len) (start behind .args .attributes) (words behind) (length room)) ≡ none
+  unfolding firstRefusal writeRefusals
+  roomy = simp (words-ok behind, sized (three (four c)), allowed (four c), le-ltb _ _ within)
+
+  header-long : (sum : ℕ) → length (header sum) ≡ headerLength (pairs (words behind))
+  header-long sum = length-header sum _ _ _ _ (guid-length (start behind)) (behind .if2 .left)
 
 -- after the two stores the room holds the header, with 0 for its checksum
-header-there : (c : tie.After-store-map)
-    → c .store-map .last .1 .0
-    ≡ headerWith 0 (c .before .before .before .before .before .before .before .before .before .before .before .before .before .before .before .before .args .guid) (c .before .before .before .before .before .before .before .before .before .before .before .before .before .before .before .before .args .len) (c .before .before .before .before .before .before .before .before .before .before .before .before .before .before .before .before .args .attributes) (now (c .before .before .before .before .before .before .before .before .before .before .before .before .before .before .before .before .args .map))
-    ++ drop (64 + 8 * (length (now (c .before .before .before .before .before .before .before .before .before .before .before .before .before .before .before .before .args .map)) / 2)) (now (c .before .before .before .before .before .before .before .before .before .before .before .before .before .before .before .before .args .room))
-header-there c =
-    let a = c .before .before .before .before .before .before .before .before .before .before .before .before .before .before .before .before .args in
-    c .store-map .ensures
-    ∙ ap (λ (l : List ℕ). sets l 56 (wordsBytes (now (a .map)) ++ replicate 8 0)) (c .before .before .before .before .store-fields .ensures)
-    ∙ header-stored (now (a .room)) (a .guid) (a .len) (a .attributes) (now (a .map)) (guid-length (c .before .before .before .before .before .before .before .before .before .before .before .before .before .before .before .before)) (c .before .before .before .before .before .before .before .before .before .before .before .if2 .left) (c .before .before .before .before .before .before .if5 .left)
+module _ (c : tie.After-store-map) where
+  abbrev filled : tie.After-store-fields
+  filled = c .before .before .before .before
 
-header-long : (c : tie.After-store-map) (sum : ℕ)
-    → length (headerWith sum (c .before .before .before .before .before .before .before .before .before .before .before .before .before .before .before .before .args .guid) (c .before .before .before .before .before .before .before .before .before .before .before .before .before .before .before .before .args .len) (c .before .before .before .before .before .before .before .before .before .before .before .before .before .before .before .before .args .attributes) (now (c .before .before .before .before .before .before .before .before .before .before .before .before .before .before .before .before .args .map))) ≡ 64 + 8 * (length (now (c .before .before .before .before .before .before .before .before .before .before .before .before .before .before .before .before .args .map)) / 2)
-header-long c sum = length-header sum _ _ _ _ (guid-length (c .before .before .before .before .before .before .before .before .before .before .before .before .before .before .before .before)) (c .before .before .before .before .before .before .before .before .before .before .before .if2 .left)
+  abbrev accepted : tie.Else5
+  accepted = filled .before .before
 
-front-there : (c : tie.After-store-map)
-    → take (64 + 8 * (length (now (c .before .before .before .before .before .before .before .before .before .before .before .before .before .before .before .before .args .map)) / 2)) (c .store-map .last .1 .0)
-    ≡ headerWith 0 (c .before .before .before .before .before .before .before .before .before .before .before .before .before .before .before .before .args .guid) (c .before .before .before .before .before .before .before .before .before .before .before .before .before .before .before .before .args .len) (c .before .before .before .before .before .before .before .before .before .before .before .before .before .before .before .before .args .attributes) (now (c .before .before .before .before .before .before .before .before .before .before .before .before .before .before .before .before .args .map))
-front-there c = rw (header-there c) (take-at _ _ _ (header-long c 0))
+  header-there : c .store-map .last .1 .0 ≡ header accepted 0 ++ drop (long accepted) (room accepted)
+  header-there =
+      let a = start (behind accepted) .args in
+      c .store-map .ensures
+      ∙ ap (λ (l : List ℕ). sets l mapStart (wordsBytes (words (behind accepted)) ++ replicate 8 0))
+      (filled .store-fields .ensures
+      ∙ ap (λ (h : ℕ). sets (room accepted) 0 (headerFront (guid accepted) (a .len) (a .attributes) h ++ (leBytes 2 0 ++ reservedAndRevision))) (long-is accepted))
+      ∙ header-stored (room accepted) (guid accepted) (a .len) (a .attributes) (words (behind accepted)) (guid-length (start (behind accepted)))
+      (behind accepted .if2 .left) (within accepted)
+      ∙ ap (λ (h : ℕ). header accepted 0 ++ drop h (room accepted)) (sym (long-is accepted))
+
+  front-there : take (long accepted) (c .store-map .last .1 .0) ≡ header accepted 0
+  front-there =
+      ap (λ (l : List ℕ). take (long accepted) l) header-there
+      ∙ take-at (header accepted 0) (drop (long accepted) (room accepted)) (long accepted) (header-long accepted 0 ∙ sym (long-is accepted))
+
+  front-long : length (take (long accepted) (c .store-map .last .1 .0)) ≡ long accepted
+  front-long = ap length front-there ∙ header-long accepted 0 ∙ sym (long-is accepted)
 
 has-zero-requires : tie.Need-has-zero-requires
 has-zero-requires c κs = search needs
 
 returns : tie.Need-returns
-unfolding firstRefusal writeRefusals wordsFault
-returns c = write-refused 106 _ _ _ _ _ (simp (sym (c .before .has-zero .ensures) ∙ c .if1 .taken))
+unfolding writtenAnswer firstRefusal writeRefusals wordsFault
+returns c = write-refused _ _ _ _ _ 106 (simp (sym (c .before .has-zero .ensures) ∙ c .if1 .taken))
 
 returns-2 : tie.Need-returns-2
-unfolding firstRefusal writeRefusals wordsFault
-returns-2 c = write-refused 106 _ _ _ _ _ (simp (ne-eqb _ _ (c .if2 .taken), or-true))
+unfolding writtenAnswer firstRefusal writeRefusals wordsFault
+returns-2 c = write-refused _ _ _ _ _ 106 (simp (ne-eqb _ _ (c .if2 .taken), or-true))
 
-size-fault-requires : tie.Need-size-fault-requires
-size-fault-requires c κs = search needs
+map-fault-requires : tie.Need-map-fault-requires
+map-fault-requires c κs = search needs
 
 returns-3 : tie.Need-returns-3
-unfolding firstRefusal writeRefusals
-returns-3 c = write-refused 107 _ _ _ _ _ (simp (words-ok (c .before .before), sym (c .before .size-fault .ensures) ∙ c .if3 .taken))
+unfolding writtenAnswer firstRefusal writeRefusals
+returns-3 c =
+    let even = c .before .before in
+    let nonzero = sym (even .before .before .has-zero .ensures) ∙ even .before .if1 .left in
+    write-refused _ _ _ _ _ 107 (simp (words-ok even, rw nonzero at (sym (c .before .map-fault .ensures) ∙ c .if3 .taken)))
 
 attributes-fault-requires : tie.Need-attributes-fault-requires
 attributes-fault-requires c κs = search needs
 
 returns-4 : tie.Need-returns-4
-unfolding firstRefusal writeRefusals
-returns-4 c = write-refused 108 _ _ _ _ _ (simp (words-ok (c .before .before .before .before), sized (c .before .before), sym (c .before .attributes-fault .ensures) ∙ c .if4 .taken))
+unfolding writtenAnswer firstRefusal writeRefusals
+returns-4 c =
+    let total = c .before .before in
+    write-refused _ _ _ _ _ 108 (simp (words-ok (two total), sized total, sym (c .before .attributes-fault .ensures) ∙ c .if4 .taken))
 
-mul-header : tie.Need-mul-header
-mul-header c = search needs
-
-add-header : tie.Need-add-header
-add-header c = search needs
+header-length-requires : tie.Need-header-length-requires
+header-length-requires c κs = size-passed _ _ _ (sized (three c)) .few-entries
 
 returns-5 : tie.Need-returns-5
-unfolding firstRefusal writeRefusals
-returns-5 c = write-refused 5 _ _ _ _ _ (simp (words-ok (c .before .before .before .before .before), sized (c .before .before .before), allowed (c .before), lt-ltb _ _ (c .if5 .taken)))
+unfolding writtenAnswer firstRefusal writeRefusals
+returns-5 c =
+    let free = c .before .before in
+    write-refused _ _ _ _ _ 5
+    (simp (
+      words-ok (two (three free)),
+      sized (three free),
+      allowed free,
+      lt-ltb _ _ (rw (c .before .header-length .ensures) at (c .if5 .taken)),
+    ))
 
 store-fields-requires : tie.Need-store-fields-requires
-store-fields-requires c κs = size-passed _ _ _ (sized (c .before .before .before .before)) .few-entries
+store-fields-requires c κs = search needs
 
 store-map-requires : tie.Need-store-map-requires
-store-map-requires c κs = let z = size-passed _ _ _ (sized (c .before .before .before .before .before .before .before .before)) in let even = c .before .before .before .before .before .before .before .before .before .before .if2 .left in omega arith
+store-map-requires c κs =
+    let ok = c .before .before .before .before .before in
+    let even = behind ok .if2 .left in
+    omega (arith, fits ok .few-entries)
 
 slice-reshare-prefix-word-sum : tie.Need-slice-reshare-prefix-word-sum
 slice-reshare-prefix-word-sum c = search needs
 
 slice-aggregate-word-sum : tie.Need-slice-aggregate-word-sum
-slice-aggregate-word-sum c = sym (ap length (front-there (c .before .before .before)) ∙ header-long (c .before .before .before) 0)
+slice-aggregate-word-sum c = sym (front-long (c .before .before .before))
 
 word-sum-requires : tie.Need-word-sum-requires
-word-sum-requires c κs = let z = size-passed _ _ _ (sized (c .before .before .before .before .before .before .before .before .before .before .before .before)) in rw (ap length (front-there (c .before .before .before)) ∙ header-long (c .before .before .before) 0) (omega arith)
+word-sum-requires c κs =
+    let there = c .before .before .before in
+    let ok = accepted there in
+    rw (front-long there) (omega (arith, fits ok .few-entries, long-is ok))
 
 sub-store : tie.Need-sub-store
 sub-store c = search needs
@@ -120,17 +189,20 @@ same-length : tie.Need-same-length
 same-length c = search needs
 
 returns-6 : tie.Need-returns-6
-unfolding headerBytes
+unfolding writtenAnswer headerBytes
 returns-6 c =
-    let a = c .before .before .before .before .before .before .before .before .before .before .before .before .before .before .before .before .before .before .before .before .before .before .before .before .args in
-    let empty = headerWith 0 (a .guid) (a .len) (a .attributes) (now (a .map)) in
-    let rest = drop (64 + 8 * (length (now (a .map)) / 2)) (now (a .room)) in
-    let sum = c .before .before .before .before .word-sum .ensures ∙ ap wordSum (front-there (c .before .before .before .before .before .before .before .before)) in
-    let done = write-done (a .guid) (a .len) (a .attributes) (now (a .map)) (now (a .room)) (guid-length (c .before .before .before .before .before .before .before .before .before .before .before .before .before .before .before .before .before .before .before .before .before .before .before .before)) (c .before .before .before .before .before .before .before .before .before .before .before .before .before .before .before .before .before .before .before .if2 .left) (roomy (c .before .before .before .before .before .before .before .before .before .before .before .before .before .before)) in (
-      done .0,
-      (rw sum at (c .before .before .store .ensures)) ∙ ap (λ (l : List ℕ). sets l 50 (leBytes 2 (checksum (wordSum empty)))) (header-there (c .before .before .before .before .before .before .before .before))
-          ∙ checksum-stored (checksum (wordSum empty)) (a .guid) (a .len) (a .attributes) (now (a .map)) rest (guid-length (c .before .before .before .before .before .before .before .before .before .before .before .before .before .before .before .before .before .before .before .before .before .before .before .before)) ∙ done .1,
-    )
+    let stored = c .before .before in
+    let there = stored .before .before .before .before .before .before in
+    let ok = accepted there in
+    let a = start (behind ok) .args in
+    let rest = drop (long ok) (room ok) in
+    let check = checksum (wordSum (header ok 0)) in
+    let sum = stored .before .before .word-sum .ensures ∙ ap wordSum (front-there there) in
+    ap (λ (l : List ℕ). wrote (success (long ok ∷ [])) l)
+    ((rw sum at (stored .store .ensures)) ∙ ap (λ (l : List ℕ). sets l 50 (leBytes 2 check)) (header-there there)
+    ∙ checksum-stored check (guid ok) (a .len) (a .attributes) (words (behind ok)) rest (guid-length (start (behind ok))))
+    ∙ ap (λ (h : ℕ). wrote (success (h ∷ [])) (header ok check ++ drop h (room ok))) (long-is ok)
+    ∙ write-done (guid ok) (a .len) (a .attributes) (words (behind ok)) (room ok) (guid-length (start (behind ok))) (behind ok .if2 .left) (roomy ok)
 
 pub write-header-spec : {M : Type 1} → statement M
 write-header-spec =
@@ -139,12 +211,11 @@ write-header-spec =
     has-zero-requires
     returns
     returns-2
-    size-fault-requires
+    map-fault-requires
     returns-3
     attributes-fault-requires
     returns-4
-    mul-header
-    add-header
+    header-length-requires
     returns-5
     store-fields-requires
     store-map-requires
