@@ -8,3 +8,10 @@ pub mod block_map;
 pub mod header;
 pub mod header_writer;
 pub mod state;
+
+pub use crate::header::Opened;
+pub use crate::header::Opening;
+pub use crate::header::open_volume;
+pub use crate::header_writer::Written;
+pub use crate::header_writer::write_header;
+pub use crate::state::State;

@@ -27,7 +27,7 @@ module _ (c : tie.After-wide2 Inv-loop μ-loop) where
   abbrev place : ℕ
   place = c .before .before .before .before .before .loop .i
 
-  abbrev inside : 2 * place + 1 < length words
+  inside : 2 * place + 1 < length words
   inside = search needs
 
   size-is : c .before .before .wide .result * c .wide2 .result ≡ getD words (2 * place) 0 * getD words (2 * place + 1) 0
