@@ -4,7 +4,8 @@ use Prim.Native.Nat.{ℕ, _+_}
 use mathlib.Core.Bool.{Bool, false, not, cond, _&&_, _||_}
 use mathlib.Core.List.{List, [], _∷_}
 use lib.Dec.{eqb, leb, ltb}
-use Rattle.volume.specs.Attributes.{flag, erasePolarity}
+use Rattle.block_service.specs.Access.{ByteChange, keep, erase}
+use Rattle.block_service.specs.Blocks.{blockAt}
 
 -- the terminator, 2^64 - 1
 abbrev pub endOfList : ℕ
@@ -26,6 +27,6 @@ names (first ∷ count ∷ rest) b =
     let later = names rest b in
     not (eqb first endOfList) && (leb first b && ltb b (first + count) || later)
 
--- an erased byte: every bit has the erase value
-unfoldable pub erasedByte : ℕ → ℕ
-erasedByte attributes = cond (flag attributes erasePolarity) 0xFF 0x00
+-- an erase of the blocks that the list names, in a volume with this block map
+unfoldable pub eraseChange : List ℕ → List ℕ → ℕ → ByteChange
+eraseChange map list i = cond (names list (blockAt map i)) erase keep

@@ -2,13 +2,13 @@
 ghost use mathlib.Core.List.{_++_};
 ghost use mathlib.Core.Path.{_≡_};
 ghost use Prim.Native.Nat.{_+_, _≤_, _<_};
-ghost use lib.Bits.{bitAnd, bitOr};
 ghost use lib.ListN.{length, getD, take, drop};
-ghost use Rattle.block_service.specs.Access.{countMoved};
-ghost use Rattle.block_service.specs.Service.{edit, changedByte, writeChange, moveAnswer, movedAnswer};
-use crate::attributes::ERASE_POLARITY;
-use crate::attributes::STICKY_WRITE;
-use crate::service::Moved;
+ghost use Rattle.common.specs.Lists.{edit};
+ghost use Rattle.block_service.specs.Access.{countMoved, writtenByte, writeChange, changedByte};
+use bytes::copy;
+use volume::attributes::ERASE_POLARITY;
+use volume::attributes::STICKY_WRITE;
+use volume::attributes::is_set;
 
 // The number of bytes that are moved between a block of length `len`, from an offset, and n bytes of data.
 pub(crate) fn count_moved(len: usize, offset: usize, n: usize) -> usize
@@ -24,16 +24,6 @@ pub(crate) fn count_moved(len: usize, offset: usize, n: usize) -> usize
     room
 }
 
-// The answer to a move of `count` of n bytes.
-pub(crate) fn moved(count: usize, n: usize) -> Moved
-    ensures { λ r. ⌜ movedAnswer r ≡ moveAnswer count n ⌝ }
-{
-    if count == n {
-        return Moved::Success(count);
-    }
-    Moved::Short(count)
-}
-
 // Copies `count` bytes of the volume, from an offset of the block at `start`, to the start of the buffer.
 pub(crate) fn load(volume: &[u8], start: usize, offset: usize, buffer: &mut [u8], count: usize)
     requires { ⌜ count ≤ length (now buffer) ⌝ }
@@ -44,8 +34,8 @@ pub(crate) fn load(volume: &[u8], start: usize, offset: usize, buffer: &mut [u8]
         return;
     }
     let at = start + offset;
-    let e = at + count;
-    copy(&mut buffer[..count], &volume[at..e]);
+    let end = at + count;
+    copy(&volume[at..end], buffer);
 }
 
 // Stores the first `count` bytes of `new` in the volume, from an offset of the block at `start`, by the
@@ -66,50 +56,33 @@ pub(crate) fn store(
         return;
     }
     let at = start + offset;
-    let e = at + count;
-    if attributes / STICKY_WRITE % 2 != 1 {
-        copy(&mut volume[at..e], &new[..count]);
-        return;
-    }
-    if attributes / ERASE_POLARITY % 2 == 1 {
-        merge_and(&mut volume[at..e], &new[..count]);
-        return;
-    }
-    merge_or(&mut volume[at..e], &new[..count]);
+    let end = at + count;
+    write_part(attributes, &mut volume[at..end], &new[..count]);
 }
 
-// Copies `new` over the part.
-fn copy(part: &mut [u8], new: &[u8])
+// Writes `new` over the part, byte by byte. The attributes are the same at every byte, so that what is compiled tests them
+// once: a copy, a loop of AND or a loop of OR.
+fn write_part(attributes: u32, part: &mut [u8], new: &[u8])
     requires { ⌜ length (now part) ≡ length (now new) ⌝ }
-    ensures { λ _. ⌜ now (part .exit) ≡ now (new .entry) ⌝ }
+    ensures { λ _. ⌜ now (part .exit) ≡ edit (λ i old. writtenByte attributes old (getD (now (new .entry)) i 0)) 0 (now (part .entry)) ⌝ }
 {
     let mut i = 0;
     while i < part.len() {
-        part[i] = new[i];
+        part[i] = written_byte(attributes, part[i], new[i]);
         i += 1;
     }
 }
 
-// Makes each byte of the part old AND new.
-fn merge_and(part: &mut [u8], new: &[u8])
-    requires { ⌜ length (now part) ≡ length (now new) ⌝ }
-    ensures { λ _. ⌜ now (part .exit) ≡ edit (λ i old. bitAnd old (getD (now (new .entry)) i 0)) 0 (now (part .entry)) ⌝ }
+// A byte written over an old one: the new byte, or with sticky write old AND new where the erase value is 1, old OR new
+// where it is 0.
+fn written_byte(attributes: u32, old: u8, new: u8) -> u8
+    ensures { λ r. ⌜ r ≡ writtenByte attributes old new ⌝ }
 {
-    let mut i = 0;
-    while i < part.len() {
-        part[i] = part[i] & new[i];
-        i += 1;
+    if is_set(attributes, STICKY_WRITE) {
+        if is_set(attributes, ERASE_POLARITY) {
+            return old & new;
+        }
+        return old | new;
     }
-}
-
-// Makes each byte of the part old OR new.
-fn merge_or(part: &mut [u8], new: &[u8])
-    requires { ⌜ length (now part) ≡ length (now new) ⌝ }
-    ensures { λ _. ⌜ now (part .exit) ≡ edit (λ i old. bitOr old (getD (now (new .entry)) i 0)) 0 (now (part .entry)) ⌝ }
-{
-    let mut i = 0;
-    while i < part.len() {
-        part[i] = part[i] | new[i];
-        i += 1;
-    }
+    new
 }

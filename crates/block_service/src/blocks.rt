@@ -1,14 +1,11 @@
 // Where a volume's blocks lie.
-ghost use mathlib.Core.Bool.{false};
 ghost use mathlib.Core.Path.{_≡_};
 ghost use Prim.Native.Nat.{_+_, _*_, _≤_, _<_};
 ghost use mathlib.Core.List.{_∷_};
-ghost use lib.ListN.{length, drop, getD};
-ghost use Rattle.volume.specs.BlockMap.{blocks, bytes, maxLength, maxBlocks};
+ghost use lib.ListN.{length, take, drop, getD};
+ghost use Rattle.volume.specs.BlockMap.{blocks, bytes, maxEntries, maxLength, maxBlocks};
 ghost use Rattle.block_service.specs.Blocks.{place, firstByte};
-ghost use Rattle.volume.specs.State.{mapOf, unlawful};
-use crate::block_map::wide;
-use crate::state::State;
+use numbers::wide;
 
 // The place of a block: its map entry, the byte of the volume at which it starts, its length, and the
 // number of blocks from it to the end of its entry, itself included.
@@ -22,14 +19,15 @@ pub enum Place {
     Missing,
 }
 
-// The place of a block of a lawful state's volume.
-pub(crate) fn locate(st: State, block: u64) -> Place
-    requires { ⌜ unlawful st ≡ false ⌝ }
-    ensures { λ r. ⌜ r ≡ place (mapOf st) block ⌝ }
+// The place of a block of a volume with so many entries of a state's map.
+pub(crate) fn locate(entries: usize, map: &[u32; 64], block: u64) -> Place
+    requires { ⌜ entries ≤ maxEntries ⌝ }
+    requires { ⌜ bytes (take (2 * entries) (now map)) ≤ maxLength ⌝ }
+    ensures { λ r. ⌜ r ≡ place (take (2 * entries) (now (map .entry))) block ⌝ }
 {
-    let map = st.map;
-    let end = 2 * st.entries;
-    find_block(&map[..end], block)
+    let words: &[u32] = map;
+    let end = 2 * entries;
+    find_block(&words[..end], block)
 }
 
 // The place of a block in a map's words: the first entry that holds it settles it.

@@ -6,13 +6,15 @@ ghost use lib.Dec.{leb, ltb};
 ghost use lib.ListN.{length};
 ghost use Rattle.volume.specs.BlockMap.{blocks, bytes, maxBlocks, maxLength};
 ghost use Rattle.block_service.specs.Blocks.{blockAt};
-ghost use Rattle.block_service.specs.Erase.{goodList, names, erasedByte};
-ghost use Rattle.block_service.specs.Service.{edit};
-use crate::attributes::ERASE_POLARITY;
+ghost use Rattle.block_service.specs.Access.{erasedByte};
+ghost use Rattle.block_service.specs.Erase.{goodList, names};
+ghost use Rattle.common.specs.Lists.{edit};
 use crate::blocks::Place;
 use crate::blocks::block_count;
 use crate::blocks::find_block;
 use crate::blocks::run_end;
+use volume::attributes::ERASE_POLARITY;
+use volume::attributes::is_set;
 
 // The word that ends an erase list, where a first block would stand.
 pub const END_OF_LIST: u64 = 0xFFFFFFFFFFFFFFFF;
@@ -117,7 +119,7 @@ fn fill(part: &mut [u8], value: u8)
 pub(crate) fn erased_byte(attributes: u32) -> u8
     ensures { λ r. ⌜ r ≡ erasedByte attributes ⌝ }
 {
-    if attributes / ERASE_POLARITY % 2 == 1 {
+    if is_set(attributes, ERASE_POLARITY) {
         return 0xFF;
     }
     0x00

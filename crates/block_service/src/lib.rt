@@ -8,3 +8,18 @@ pub mod blocks;
 pub mod erase;
 pub mod service;
 mod settings;
+
+pub use crate::erase::END_OF_LIST;
+pub use crate::service::Address;
+pub use crate::service::BlockSize;
+pub use crate::service::Erased;
+pub use crate::service::Moved;
+pub use crate::service::NewSettings;
+pub use crate::service::Settings;
+pub use crate::service::erase_blocks;
+pub use crate::service::get_attributes;
+pub use crate::service::get_block_size;
+pub use crate::service::get_physical_address;
+pub use crate::service::read;
+pub use crate::service::set_attributes;
+pub use crate::service::write;

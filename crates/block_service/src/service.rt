@@ -3,20 +3,19 @@
 // Every call answers every state and every argument. The answer, the state afterwards, and the whole
 // contents of the volume and of the reader's buffer afterwards are those of `step` in specs/Service. A call
 // costs a test of the state (passes over at most 32 map entries), a scan of the map for each block or erase
-// pair that it names, and the bytes that it moves.
+// pair that it names, and the bytes that it moves. Each call copies the state's map once and lends the copy on.
 ghost use mathlib.Core.List.{List, []};
 ghost use mathlib.Core.Path.{_≡_};
 ghost use Prim.Native.Nat.{ℕ};
+ghost use Rattle.common.specs.Refusals.{firstRefusal};
+ghost use Rattle.volume.specs.State.{stateWith};
 ghost use Rattle.block_service.specs.Service.{step, result, settingsAnswer, addressAnswer, blockSizeAnswer, movedAnswer, erasedAnswer};
 ghost use Rattle.block_service.specs.Service.{getAttributes, setAttributes, getPhysicalAddress, getBlockSize, eraseBlocks};
+ghost use Rattle.block_service.specs.Service.{lentRefusals, refusalOf, moveAnswer};
 ghost use Rattle.block_service.specs.Service as Calls;
 use crate::access::count_moved;
 use crate::access::load;
-use crate::access::moved;
 use crate::access::store;
-use crate::attributes::MEMORY_MAPPED;
-use crate::attributes::READ_STATUS;
-use crate::attributes::WRITE_STATUS;
 use crate::blocks::Place;
 use crate::blocks::locate;
 use crate::erase::erase_good;
@@ -24,8 +23,12 @@ use crate::erase::erased_byte;
 use crate::settings::changes_fixed;
 use crate::settings::changes_locked;
 use crate::settings::lacks_capability;
-use crate::state::State;
-use crate::state::unlawful_state;
+use volume::State;
+use volume::attributes::MEMORY_MAPPED;
+use volume::attributes::READ_STATUS;
+use volume::attributes::WRITE_STATUS;
+use volume::attributes::is_set;
+use volume::state::unlawful_state;
 
 // Settings, as they are or as they were set.
 pub enum Settings {
@@ -68,7 +71,8 @@ pub enum Erased {
 pub fn get_attributes(st: State) -> Settings
     ensures { λ r. ⌜ ((v : List ℕ) → result (settingsAnswer r) st v [] ≡ step st v getAttributes) ⌝ }
 {
-    if unlawful_state(st) {
+    let map = st.map;
+    if unlawful_state(st.length, st.attributes, st.base, st.entries, &map) {
         return Settings::Refused(111);
     }
     Settings::Success(st.attributes)
@@ -80,7 +84,8 @@ pub fn get_attributes(st: State) -> Settings
 pub fn set_attributes(st: State, new: u32) -> NewSettings
     ensures { λ r. ⌜ ((v : List ℕ) → result (settingsAnswer (r .answer)) (r .state) v [] ≡ step st v (setAttributes new)) ⌝ }
 {
-    if unlawful_state(st) {
+    let map = st.map;
+    if unlawful_state(st.length, st.attributes, st.base, st.entries, &map) {
         return NewSettings {
             answer: Settings::Refused(111),
             state: st,
@@ -117,10 +122,11 @@ pub fn set_attributes(st: State, new: u32) -> NewSettings
 pub fn get_physical_address(st: State) -> Address
     ensures { λ r. ⌜ ((v : List ℕ) → result (addressAnswer r) st v [] ≡ step st v getPhysicalAddress) ⌝ }
 {
-    if unlawful_state(st) {
+    let map = st.map;
+    if unlawful_state(st.length, st.attributes, st.base, st.entries, &map) {
         return Address::Refused(111);
     }
-    if st.attributes / MEMORY_MAPPED % 2 != 1 {
+    if !is_set(st.attributes, MEMORY_MAPPED) {
         return Address::Refused(3);
     }
     Address::Success(st.base)
@@ -131,10 +137,11 @@ pub fn get_physical_address(st: State) -> Address
 pub fn get_block_size(st: State, block: u64) -> BlockSize
     ensures { λ r. ⌜ ((v : List ℕ) → result (blockSizeAnswer r) st v [] ≡ step st v (getBlockSize block)) ⌝ }
 {
-    if unlawful_state(st) {
+    let map = st.map;
+    if unlawful_state(st.length, st.attributes, st.base, st.entries, &map) {
         return BlockSize::Refused(111);
     }
-    let found = locate(st, block);
+    let found = locate(st.entries, &map, block);
     let Place::At {
         entry: _,
         start: _,
@@ -155,16 +162,20 @@ pub fn get_block_size(st: State, block: u64) -> BlockSize
 pub fn read(st: State, volume: &[u8], block: u64, offset: usize, buffer: &mut [u8]) -> Moved
     ensures { λ r. ⌜ result (movedAnswer r) st (now (volume .entry)) (now (buffer .exit)) ≡ step st (now (volume .entry)) (Calls.read block offset (now (buffer .entry))) ⌝ }
 {
-    if unlawful_state(st) {
-        return Moved::Refused(111);
+    let map = st.map;
+    let first = lent_refusal(
+        st.length,
+        st.attributes,
+        st.base,
+        st.entries,
+        &map,
+        volume.len() as u64,
+        READ_STATUS,
+    );
+    if let Lent::Refused(number) = first {
+        return Moved::Refused(number);
     }
-    if (volume.len() as u64) < st.length {
-        return Moved::Refused(5);
-    }
-    if st.attributes / READ_STATUS % 2 != 1 {
-        return Moved::Refused(15);
-    }
-    let found = locate(st, block);
+    let found = locate(st.entries, &map, block);
     let Place::At {
         entry: _,
         start,
@@ -177,7 +188,7 @@ pub fn read(st: State, volume: &[u8], block: u64, offset: usize, buffer: &mut [u
     let n = buffer.len();
     let count = count_moved(len, offset, n);
     load(volume, start, offset, buffer, count);
-    moved(count, n)
+    move_answer(count, n)
 }
 
 // Writes the data from an offset of a block on, by the volume's write rule; no byte outside that stretch of the block
@@ -185,16 +196,20 @@ pub fn read(st: State, volume: &[u8], block: u64, offset: usize, buffer: &mut [u
 pub fn write(st: State, volume: &mut [u8], block: u64, offset: usize, new: &[u8]) -> Moved
     ensures { λ r. ⌜ result (movedAnswer r) st (now (volume .exit)) [] ≡ step st (now (volume .entry)) (Calls.write block offset (now (new .entry))) ⌝ }
 {
-    if unlawful_state(st) {
-        return Moved::Refused(111);
+    let map = st.map;
+    let first = lent_refusal(
+        st.length,
+        st.attributes,
+        st.base,
+        st.entries,
+        &map,
+        volume.len() as u64,
+        WRITE_STATUS,
+    );
+    if let Lent::Refused(number) = first {
+        return Moved::Refused(number);
     }
-    if (volume.len() as u64) < st.length {
-        return Moved::Refused(5);
-    }
-    if st.attributes / WRITE_STATUS % 2 != 1 {
-        return Moved::Refused(15);
-    }
-    let found = locate(st, block);
+    let found = locate(st.entries, &map, block);
     let Place::At {
         entry: _,
         start,
@@ -207,7 +222,7 @@ pub fn write(st: State, volume: &mut [u8], block: u64, offset: usize, new: &[u8]
     let n = new.len();
     let count = count_moved(len, offset, n);
     store(st.attributes, volume, start, offset, new, count);
-    moved(count, n)
+    move_answer(count, n)
 }
 
 // Erases the blocks that a list names: pairs of first block and count, ended by END_OF_LIST. Refused with 111, 5, 15
@@ -216,19 +231,63 @@ pub fn write(st: State, volume: &mut [u8], block: u64, offset: usize, new: &[u8]
 pub fn erase_blocks(st: State, volume: &mut [u8], list: &[u64]) -> Erased
     ensures { λ r. ⌜ result (erasedAnswer r) st (now (volume .exit)) [] ≡ step st (now (volume .entry)) (eraseBlocks (now (list .entry))) ⌝ }
 {
-    if unlawful_state(st) {
-        return Erased::Refused(111);
-    }
-    if (volume.len() as u64) < st.length {
-        return Erased::Refused(5);
-    }
-    if st.attributes / WRITE_STATUS % 2 != 1 {
-        return Erased::Refused(15);
-    }
     let map = st.map;
+    let first = lent_refusal(
+        st.length,
+        st.attributes,
+        st.base,
+        st.entries,
+        &map,
+        volume.len() as u64,
+        WRITE_STATUS,
+    );
+    if let Lent::Refused(number) = first {
+        return Erased::Refused(number);
+    }
     let end = 2 * st.entries;
     if erase_good(&map[..end], volume, list, erased_byte(st.attributes)) {
         return Erased::Success;
     }
     Erased::Refused(2)
+}
+
+// What a read, a write and an erase begin with: they may go on, or are refused.
+enum Lent {
+    Allowed,
+    Refused(u16),
+}
+
+// The refusals that the calls begin with to which the volume is lent, for a state of these parts: 111, then 5 (fewer bytes
+// are lent than the volume has), then 15 (the status is off).
+fn lent_refusal(
+    len: u64,
+    attributes: u32,
+    base: u64,
+    entries: usize,
+    map: &[u32; 64],
+    volume_len: u64,
+    status: u32,
+) -> Lent
+    ensures { λ r. ⌜ ((guid : List ℕ) → refusalOf r ≡ firstRefusal (lentRefusals (stateWith guid len attributes base entries (now (map .entry))) «volume_len» status)) ⌝ }
+{
+    if unlawful_state(len, attributes, base, entries, map) {
+        return Lent::Refused(111);
+    }
+    if volume_len < len {
+        return Lent::Refused(5);
+    }
+    if is_set(attributes, status) {
+        return Lent::Allowed;
+    }
+    Lent::Refused(15)
+}
+
+// The answer to a move of `count` of n bytes.
+fn move_answer(count: usize, n: usize) -> Moved
+    ensures { λ r. ⌜ movedAnswer r ≡ moveAnswer count n ⌝ }
+{
+    if count == n {
+        return Moved::Success(count);
+    }
+    Moved::Short(count)
 }

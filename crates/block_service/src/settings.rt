@@ -1,18 +1,18 @@
 // The rules of setting the settings: which bits may change, and which capability a change needs.
 ghost use mathlib.Core.Bool.{not, _&&_, _||_};
 ghost use mathlib.Core.Path.{_≡_};
-ghost use Prim.Native.Nat.{_<_};
 ghost use lib.Dec.{eqb};
 ghost use Rattle.volume.specs.Attributes.{flag, lockStatus};
 ghost use Rattle.block_service.specs.Settings.{changesFixed, lacksCapability};
-use crate::attributes::LOCK_CAP;
-use crate::attributes::LOCK_STATUS;
-use crate::attributes::READ_DISABLED_CAP;
-use crate::attributes::READ_ENABLED_CAP;
-use crate::attributes::READ_STATUS;
-use crate::attributes::WRITE_DISABLED_CAP;
-use crate::attributes::WRITE_ENABLED_CAP;
-use crate::attributes::WRITE_STATUS;
+use volume::attributes::LOCK_CAP;
+use volume::attributes::LOCK_STATUS;
+use volume::attributes::READ_DISABLED_CAP;
+use volume::attributes::READ_ENABLED_CAP;
+use volume::attributes::READ_STATUS;
+use volume::attributes::WRITE_DISABLED_CAP;
+use volume::attributes::WRITE_ENABLED_CAP;
+use volume::attributes::WRITE_STATUS;
+use volume::attributes::is_set;
 
 // Whether the new settings change a bit other than the read status, the write status and the lock.
 pub(crate) fn changes_fixed(old: u32, new: u32) -> bool
@@ -34,7 +34,7 @@ pub(crate) fn changes_fixed(old: u32, new: u32) -> bool
 pub(crate) fn changes_locked(old: u32, new: u32) -> bool
     ensures { λ r. ⌜ r ≡ (flag old lockStatus && not (eqb old new)) ⌝ }
 {
-    if old / LOCK_STATUS % 2 == 1 {
+    if is_set(old, LOCK_STATUS) {
         return old != new;
     }
     false
@@ -45,35 +45,27 @@ pub(crate) fn lacks_capability(old: u32, new: u32) -> bool
     ensures { λ r. ⌜ r ≡ lacksCapability old new ⌝ }
 {
     if lacks(
-        has(old, READ_STATUS),
-        has(new, READ_STATUS),
-        has(old, READ_ENABLED_CAP),
-        has(old, READ_DISABLED_CAP),
+        is_set(old, READ_STATUS),
+        is_set(new, READ_STATUS),
+        is_set(old, READ_ENABLED_CAP),
+        is_set(old, READ_DISABLED_CAP),
     ) {
         return true;
     }
     if lacks(
-        has(old, WRITE_STATUS),
-        has(new, WRITE_STATUS),
-        has(old, WRITE_ENABLED_CAP),
-        has(old, WRITE_DISABLED_CAP),
+        is_set(old, WRITE_STATUS),
+        is_set(new, WRITE_STATUS),
+        is_set(old, WRITE_ENABLED_CAP),
+        is_set(old, WRITE_DISABLED_CAP),
     ) {
         return true;
     }
     lacks(
-        has(old, LOCK_STATUS),
-        has(new, LOCK_STATUS),
-        has(old, LOCK_CAP),
+        is_set(old, LOCK_STATUS),
+        is_set(new, LOCK_STATUS),
+        is_set(old, LOCK_CAP),
         true,
     )
-}
-
-// Whether the attribute of this value, a power of two, is set.
-fn has(a: u32, bit: u32) -> bool
-    requires { ⌜ 0 < bit ⌝ }
-    ensures { λ r. ⌜ r ≡ flag a bit ⌝ }
-{
-    a / bit % 2 == 1
 }
 
 // Whether a status changes without the capability to raise it or to clear it.

@@ -6,70 +6,53 @@ use mathlib.Core.List.{List, _++_}
 use native.Mathlib.Nat.{add-sub-cancel-left}
 use native.Mathlib.Omega.{arith}
 use borrow.Author.Tests.{leb-true, ltb-true}
-use lib.Bits.{bitAnd, bitOr}
 use lib.Dec.{leb, ltb}
 use lib.ListN.{length, getD, take, drop, length-drop}
-use lib.Seq.{length-take-le, getD-take}
-use Rattle.block_service.specs.Access.{countMoved, writtenByte}
-use Rattle.volume.specs.Attributes.{flag, stickyWrite, erasePolarity}
-use Rattle.block_service.specs.Service.{edit, changedByte, writeChange, keep, store}
-use Rattle.common.proofs.Edit.{within, edit-part, edit-same, edit-keep, edit-replace}
-
--- the write rule's three cases
-pub written-plain : (a : ℕ) → flag a stickyWrite ≡ false → (x y : ℕ) → y ≡ writtenByte a x y
-unfolding writtenByte
-written-plain a e x y = rw e
-
-pub written-and : (a : ℕ) → flag a stickyWrite ≡ true → flag a erasePolarity ≡ true → (x y : ℕ) → bitAnd x y ≡ writtenByte a x y
-unfolding writtenByte
-written-and a e p x y = rw (e, p)
-
-pub written-or : (a : ℕ) → flag a stickyWrite ≡ true → flag a erasePolarity ≡ false → (x y : ℕ) → bitOr x y ≡ writtenByte a x y
-unfolding writtenByte
-written-or a e p x y = rw (e, p)
+use lib.Seq.{length-take-le, take-all, getD-take}
+use Rattle.common.specs.Lists.{edit}
+use Rattle.block_service.specs.Access.{countMoved, writtenByte, changedByte, writeChange, keep, store}
+use Rattle.common.proofs.Edit.{within, edit-part, edit-same, edit-keep}
 
 -- a length of a part that runs from `at` to `at + n`
 pub part-length : (at n : ℕ) (v : List ℕ) → at + n ≤ length v → length (take (at + n - at) (drop at v)) ≡ n
 part-length at n v h = rw (add-sub-cancel-left at n) (length-take-le n (drop at v) (rw (length-drop at v) (omega arith)))
 
--- a read: the bytes that were copied to the front of the buffer
-pub read-back : (at n : ℕ) (v buffer part : List ℕ) → part ≡ take (at + n - at) (drop at v)
-    → part ++ drop n buffer ≡ take n (drop at v) ++ drop n buffer
-read-back at n v buffer part e = rw (e, add-sub-cancel-left at n)
+-- a read: the bytes of the stretch, copied to the front of the buffer
+pub read-back : (at n : ℕ) (v buffer after : List ℕ) → at + n ≤ length v
+    → after ≡ take (length (take (at + n - at) (drop at v))) (take (at + n - at) (drop at v)) ++ drop (length (take (at + n - at) (drop at v))) buffer
+    → after ≡ take n (drop at v) ++ drop n buffer
+read-back at n v buffer after h e =
+    let all = take-all n (take n (drop at v)) (rw (part h) (omega arith)) in
+    rw (part-length at n v h, add-sub-cancel-left at n, all) at e
+  where
+    part : at + n ≤ length v → length (take n (drop at v)) ≡ n
+    part h = rw (add-sub-cancel-left at n) at (part-length at n v h)
 
 -- the byte that a write changes at i, and those that it does not change
-stretch : (a at n : ℕ) (new : List ℕ) (f : ℕ → ℕ → ℕ) → n ≤ length new → ((x y : ℕ) → f x y ≡ writtenByte a x y) → (i x : ℕ)
-    → within at n (λ j y. f y (getD (take n new) j 0)) i x ≡ changedByte a (writeChange at n new i) x
+stretch : (a at n : ℕ) (new : List ℕ) → n ≤ length new → (i x : ℕ)
+    → within at n (λ j y. writtenByte a y (getD (take n new) j 0)) i x ≡ changedByte a (writeChange at n new i) x
 unfolding changedByte writeChange
-stretch a at n new f h e i x = go (leb at i) refl (ltb i (at + n)) refl
+stretch a at n new h i x = go (leb at i) refl (ltb i (at + n)) refl
   where
     go : (t : Bool) → leb at i ≡ t → (u : Bool) → ltb i (at + n) ≡ u
-        → cond (t && u) (f x (getD (take n new) (i - at) 0)) x ≡ changedByte a (cond (t && u) (store (getD new (i - at) 0)) keep) x
+        → cond (t && u) (writtenByte a x (getD (take n new) (i - at) 0)) x ≡ changedByte a (cond (t && u) (store (getD new (i - at) 0)) keep) x
     go true p true q =
         let p' : at ≤ i = leb-true _ _ p in
         let q' : i < at + n = ltb-true _ _ q in
-        rw (getD-take n new (i - at) 0 (omega arith), e)
+        rw (getD-take n new (i - at) 0 (omega arith))
     go true p false q = refl
     go false p true q = refl
     go false p false q = refl
 
--- a write: the part that was merged with the data
-pub write-back : (a at n : ℕ) (v new part : List ℕ) (f : ℕ → ℕ → ℕ) → at + n ≤ length v → n ≤ length new
-    → ((x y : ℕ) → f x y ≡ writtenByte a x y)
-    → part ≡ edit (λ i x. f x (getD (take n new) i 0)) 0 (take (at + n - at) (drop at v))
+-- a write: the part over which the data was written
+pub write-back : (a at n : ℕ) (v new part : List ℕ) → at + n ≤ length v → n ≤ length new
+    → part ≡ edit (λ i x. writtenByte a x (getD (take n new) i 0)) 0 (take (at + n - at) (drop at v))
     → take at v ++ (part ++ drop (at + n - at) (drop at v)) ≡ edit (λ i x. changedByte a (writeChange at n new i) x) 0 v
-write-back a at n v new part f h k e p =
+write-back a at n v new part h k p =
     rw (p, add-sub-cancel-left at n)
-    (edit-part (λ i x. f x (getD (take n new) i 0)) at n v h
-    ∙ edit-same (within at n (λ i x. f x (getD (take n new) i 0))) (λ i x. changedByte a (writeChange at n new i) x) 0 0 v
-    (λ i x b. stretch a at n new f k e (0 + i) x))
-
--- and a plain write: the part is the data
-pub copy-back : (a at n : ℕ) (v new part : List ℕ) → at + n ≤ length v → n ≤ length new → flag a stickyWrite ≡ false → part ≡ take n new
-    → take at v ++ (part ++ drop (at + n - at) (drop at v)) ≡ edit (λ i x. changedByte a (writeChange at n new i) x) 0 v
-copy-back a at n v new part h k e p =
-    write-back a at n v new part (λ x y. y) h k (written-plain a e)
-    (p ∙ sym (edit-replace (take (at + n - at) (drop at v)) (take n new) (part-length at n v h ∙ sym (length-take-le n new k))))
+    (edit-part (λ i x. writtenByte a x (getD (take n new) i 0)) at n v h
+    ∙ edit-same (within at n (λ i x. writtenByte a x (getD (take n new) i 0))) (λ i x. changedByte a (writeChange at n new i) x) 0 0 v
+    (λ i x b. stretch a at n new k (0 + i) x))
 
 -- a write of no bytes
 pub write-none : (a at : ℕ) (n : ℕ) (v new : List ℕ) → n ≡ 0 → v ≡ edit (λ i x. changedByte a (writeChange at n new i) x) 0 v

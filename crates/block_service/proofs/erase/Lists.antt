@@ -8,11 +8,11 @@ use borrow.Author.Tests.{le-leb, lt-leb, ne-eqb, leb-true, ltb-true, ltb-false, 
 use lib.Dec.{leb, ltb, eqb}
 use lib.ListN.{length, getD, take, drop, length-drop, drop-of-length-le}
 use lib.Seq.{drop-cons}
+use Rattle.common.specs.Lists.{edit}
 use Rattle.common.proofs.Lists.{drop-two}
 use Rattle.volume.specs.BlockMap.{blocks}
 use Rattle.block_service.specs.Blocks.{blockAt, firstByte}
 use Rattle.block_service.specs.Erase.{endOfList, goodList, names}
-use Rattle.block_service.specs.Service.{edit}
 use Rattle.common.proofs.Edit.{within, edit-part, edit-same, edit-keep, edit-edit}
 use Rattle.block_service.proofs.blocks.Places.{before-same, not-before-same}
 

@@ -11,22 +11,24 @@ use borrow.Author.Tests.{lt-ltb, le-leb, ltb-true, ltb-false, leb-true, leb-fals
 use lib.Dec.{T, leb, ltb, eqb}
 use lib.ListN.{length, getD, take, drop, List·getD-append, length-drop}
 use lib.Seq.{getD-take, getD-drop, length-take-le, getD-append-add}
+use Rattle.common.specs.Lists.{edit}
+use Rattle.common.specs.Answers.{refused, success, short}
 use Rattle.common.specs.Refusals.{row, firstRefusal}
-use Rattle.common.proofs.Refusals.{row-passed}
-use Rattle.block_service.specs.Access.{countMoved, writtenByte}
-use Rattle.volume.specs.Attributes.{erasePolarity}
+use Rattle.common.proofs.Refusals.{row-passed, front-passed, then-passed}
+use Rattle.block_service.specs.Access.{countMoved, writtenByte, erasedByte, keep, store, erase, writeChange, changedByte}
+use Rattle.volume.specs.Attributes.{readStatus, writeStatus, erasePolarity}
 use Rattle.volume.specs.BlockMap.{blocks, bytes}
 use Rattle.block_service.specs.Blocks.{place, startOf, lengthOf, inBlock, blockAt}
-use Rattle.block_service.specs.Erase.{endOfList, goodList, names, erasedByte}
-use Rattle.block_service.specs.Service.{refused, success, short, Call, getAttributes, setAttributes, getPhysicalAddress, getBlockSize, read, write, eraseBlocks, keep, store, erase, refusals, effect, moveAnswer, writeChange, eraseChange, Result, result, edit, changedByte, perform, bufferOf, step}
-use Rattle.volume.specs.State.{mapOf, unlawful}
+use Rattle.block_service.specs.Erase.{endOfList, goodList, names, eraseChange}
+use Rattle.block_service.specs.Service.{Call, getAttributes, setAttributes, getPhysicalAddress, getBlockSize, read, write, eraseBlocks, lentRefusals, refusals, effect, moveAnswer, Result, result, perform, bufferOf, step}
+use Rattle.volume.specs.State.{mapOf}
 use Rattle.volume.specs.declared.state.State.{State}
 use Rattle.block_service.specs.declared.blocks.Place.{Place}
 use Rattle.block_service.specs.declared.blocks.Place.the-variants.{At, Missing}
 use Rattle.common.proofs.Edit.{getD-edit, getD-kept}
-use Rattle.volume.proofs.state.Lawful.{Lawful, lawful}
+use Rattle.volume.proofs.state.Lawful.{Lawful}
 use Rattle.block_service.proofs.blocks.Places.{inBlock-blockAt, inBlock-bounds, inBlock-of-bounds, in-some-block, before-firstByte, firstByte-end, firstByte-le, found-start, found-end, found-within, place-found, place-lost}
-use Rattle.block_service.proofs.service.Steps.{refused-step, allowed-step}
+use Rattle.block_service.proofs.service.Steps.{refused-step, allowed-step, begun, lentRows}
 
 -- ---- refusals
 
@@ -82,29 +84,27 @@ pub record Passed (st : State) (n : ℕ) (t : Bool) : Type 0 where
   pub long : st .length ≤ n
   pub last : t ≡ false
 
-passed-rows : (st : State) (n : ℕ) (s t : Bool)
-    → firstRefusal (row (unlawful st) 111 ∷ row (ltb n (st .length)) 5 ∷ row s 15 ∷ row t 2 ∷ []) ≡ none → Passed st n t
-passed-rows st n s t e =
-    let a = row-passed (row (unlawful st) 111) _ e in
-    let b = row-passed (row (ltb n (st .length)) 5) _ (a .1) in
-    let c = row-passed (row s 15) _ (b .1) in
-    let d = row-passed (row t 2) _ (c .1) in
-    record { lawful = lawful st (a .0); long = ltb-false n (st .length) (b .0); last = d .0 }
+passed-rows : (st : State) (n status : ℕ) (t : Bool) → firstRefusal (lentRows st n status t) ≡ none → Passed st n t
+passed-rows st n status t e =
+    let f = front-passed (lentRefusals st n status) _ e in
+    let b = begun st n status f in
+    let d = row-passed (row t 2) _ (sym (then-passed (lentRefusals st n status) _ f) ∙ e) in
+    record { lawful = b .lawful; long = b .long; last = d .0 }
 
 pub passed-read : (st : State) (n b o : ℕ) (buffer : List ℕ) → firstRefusal (refusals st n (read b o buffer)) ≡ none
     → Passed st n (leb (blocks (mapOf st)) b)
 unfolding refusals
-passed-read st n b o buffer e = passed-rows st n _ _ e
+passed-read st n b o buffer e = passed-rows st n readStatus _ e
 
 pub passed-write : (st : State) (n b o : ℕ) (new : List ℕ) → firstRefusal (refusals st n (write b o new)) ≡ none
     → Passed st n (leb (blocks (mapOf st)) b)
 unfolding refusals
-passed-write st n b o new e = passed-rows st n _ _ e
+passed-write st n b o new e = passed-rows st n writeStatus _ e
 
 pub passed-erase : (st : State) (n : ℕ) (list : List ℕ) → firstRefusal (refusals st n (eraseBlocks list)) ≡ none
     → Passed st n (not (goodList (blocks (mapOf st)) list))
 unfolding refusals
-passed-erase st n list e = passed-rows st n _ _ e
+passed-erase st n list e = passed-rows st n writeStatus _ e
 
 -- a block that is there has a place
 pub record Placed (m : List ℕ) (b : ℕ) : Type 0 where

@@ -9,13 +9,14 @@ use native.Mathlib.Omega.{arith}
 use borrow.Author.Tests.{leb-false}
 use lib.Dec.{T, leb}
 use lib.ListN.{length, getD}
+use Rattle.common.specs.Answers.{refused, success}
 use Rattle.common.specs.Refusals.{row, firstRefusal, any}
 use Rattle.common.proofs.Refusals.{row-passed}
 use Rattle.block_service.specs.Access.{countMoved}
 use Rattle.volume.specs.Attributes.{attributesFault, baseFault}
 use Rattle.volume.specs.BlockMap.{blocks, bytes}
 use Rattle.block_service.specs.Blocks.{place, lengthOf, leftOf, inBlock, blockAt}
-use Rattle.block_service.specs.Service.{refused, success, Call, getAttributes, setAttributes, getPhysicalAddress, getBlockSize, read, write, eraseBlocks, Effect, reply, setTo, copyOut, change, refusals, effect, decide, Result, withAttributes, perform, bufferOf, step}
+use Rattle.block_service.specs.Service.{Call, getAttributes, setAttributes, getPhysicalAddress, getBlockSize, read, write, eraseBlocks, Effect, reply, setTo, copyOut, change, refusals, effect, decide, Result, withAttributes, perform, bufferOf, step}
 use Rattle.block_service.specs.Settings.{changesFixed, settingRefusals}
 use Rattle.volume.specs.State.{stateWith, mapOf, unlawful}
 use Rattle.volume.specs.declared.state.State.{State}
@@ -33,14 +34,21 @@ use Rattle.block_service.proofs.service.Effects.{effect-answers, passed
 
 -- the map is the same after every call
 pub map-kept : (st : State) (v : List ℕ) (c : Call) → mapOf (step st v c .state) ≡ mapOf st
-unfolding step perform withAttributes stateWith mapOf
-map-kept st v c = go (decide st (length v) c)
+unfolding perform effect withAttributes stateWith mapOf
+map-kept st v c = go (firstRefusal (refusals st (length v) c)) refl
   where
-    go : (e : Effect) → mapOf (perform st v (bufferOf c) e .state) ≡ mapOf st
-    go (reply a) = refl
-    go (setTo new) = refl
-    go (copyOut at n a) = refl
-    go (change f a) = refl
+    effect-map : (c : Call) → mapOf (perform st v (bufferOf c) (effect st c) .state) ≡ mapOf st
+    effect-map getAttributes = refl
+    effect-map (setAttributes new) = refl
+    effect-map getPhysicalAddress = refl
+    effect-map (getBlockSize b) = refl
+    effect-map (read b o buffer) = refl
+    effect-map (write b o new) = refl
+    effect-map (eraseBlocks list) = refl
+
+    go : (o : Option ℕ) → firstRefusal (refusals st (length v) c) ≡ o → mapOf (step st v c .state) ≡ mapOf st
+    go (some n) e = ap (λ (r : Result). mapOf (r .state)) (sym (refused-step st v c n e))
+    go none e = ap (λ (r : Result). mapOf (r .state)) (sym (allowed-step st v c e)) ∙ effect-map c
 
 -- and so is the volume's length
 pub length-kept : (st : State) (v : List ℕ) (c : Call) → length (step st v c .volume) ≡ length v
@@ -49,7 +57,7 @@ length-kept st v c = go (decide st (length v) c)
   where
     go : (e : Effect) → length (perform st v (bufferOf c) e .volume) ≡ length v
     go (reply a) = refl
-    go (setTo new) = refl
+    go (setTo next a) = refl
     go (copyOut at n a) = refl
     go (change f a) = length-edit _ 0 v
 

@@ -1,51 +1,42 @@
 -- Laws of a step of the block service: what a call leaves that is refused, and what one leaves that is not.
-use Prim.Native.Nat.{ℕ, _+_, _/_, _%_, _≤_, _<_}
+use Prim.Native.Nat.{ℕ, _+_, _≤_}
 use mathlib.Core.Path.{_≡_, refl, ap, _∙_}
 use mathlib.Core.Bool.{Bool, true, false, not, cond}
 use mathlib.Core.List.{List, [], _∷_, _++_}
-use mathlib.Core.Option.{Option, none, some}
-use borrow.Author.Tests.{lt-ltb, le-ltb, eq-eqb, ne-eqb}
+use mathlib.Core.Option.{none, some}
+use borrow.Author.Tests.{ltb-false, not-false}
 use lib.Dec.{ltb}
 use lib.ListN.{length, take, drop}
+use Rattle.common.specs.Lists.{edit}
+use Rattle.common.specs.Answers.{Answer, refused, success}
 use Rattle.common.specs.Refusals.{Row, row, firstRefusal}
-use Rattle.block_service.specs.Service.{Answer, refused, success, Call, refusals, effect, unless, decide, result, perform, bufferOf, step, read, write, eraseBlocks, getAttributes, setAttributes, getPhysicalAddress, getBlockSize, moveAnswer, edit, changedByte, writeChange, eraseChange, erase, keep}
-use Rattle.block_service.specs.Access.{countMoved}
+use Rattle.block_service.specs.Service.{Call, lentRefusals, refusals, effect, decide, result, perform, bufferOf, step, read, write, eraseBlocks, getAttributes, setAttributes, getPhysicalAddress, getBlockSize, moveAnswer}
+use Rattle.block_service.specs.Access.{countMoved, changedByte, writeChange, erase, keep, erasedByte}
 use Rattle.volume.specs.Attributes.{flag}
 use Rattle.block_service.specs.Blocks.{place, startOf, lengthOf, leftOf, blockAt}
-use Rattle.block_service.specs.Erase.{names, erasedByte}
+use Rattle.block_service.specs.Erase.{names, eraseChange}
 use Rattle.volume.specs.State.{mapOf, unlawful}
 use Rattle.block_service.specs.declared.blocks.Place.the-variants.{At}
 use Rattle.volume.specs.declared.state.State.{State}
 use Rattle.common.proofs.Edit.{edit-same}
-
--- a table's first row applies, or the table is that of the rows after it
-pub row-applies : (t : Bool) (n : ℕ) (rest : List Row) → t ≡ true → firstRefusal (row t n ∷ rest) ≡ some n
-unfolding firstRefusal
-row-applies t n rest e = rw e
-
-pub row-passes : (t : Bool) (n : ℕ) (rest : List Row) (o : Option ℕ) → t ≡ false → firstRefusal rest ≡ o → firstRefusal (row t n ∷ rest) ≡ o
-unfolding firstRefusal
-row-passes t n rest o e q = rw e q
-
-pub no-row : firstRefusal [] ≡ none
-unfolding firstRefusal
-no-row = refl
+use Rattle.common.proofs.Refusals.{row-passed, then-passed, then-refused, row-applies, row-passes, no-row}
+use Rattle.volume.proofs.state.Lawful.{Lawful, lawful}
 
 -- a refused call answers its number and leaves everything as it was
 pub refused-step : (st : State) (v : List ℕ) (c : Call) (n : ℕ) → firstRefusal (refusals st (length v) c) ≡ some n
     → result (refused n) st v (bufferOf c) ≡ step st v c
-unfolding step decide unless perform
+unfolding step decide perform
 refused-step st v c n e = rw e
 
 -- a call that is not refused does what its effect says
 pub allowed-step : (st : State) (v : List ℕ) (c : Call) → firstRefusal (refusals st (length v) c) ≡ none
     → perform st v (bufferOf c) (effect st c) ≡ step st v c
-unfolding step decide unless
+unfolding step decide
 allowed-step st v c e = rw e
 
 -- 111 comes first at every call
 pub unlawful-step : (st : State) (v : List ℕ) (c : Call) → unlawful st ≡ true → result (refused 111) st v (bufferOf c) ≡ step st v c
-unfolding refusals
+unfolding refusals lentRefusals
 unlawful-step st v getAttributes e = refused-step st v _ 111 (row-applies _ _ _ e)
 unlawful-step st v (setAttributes new) e = refused-step st v _ 111 (row-applies _ _ _ e)
 unlawful-step st v getPhysicalAddress e = refused-step st v _ 111 (row-applies _ _ _ e)
@@ -54,26 +45,34 @@ unlawful-step st v (read b o buffer) e = refused-step st v _ 111 (row-applies _ 
 unlawful-step st v (write b o new) e = refused-step st v _ 111 (row-applies _ _ _ e)
 unlawful-step st v (eraseBlocks list) e = refused-step st v _ 111 (row-applies _ _ _ e)
 
--- the table of the calls that are lent the volume: 111, 5, 15 by a status bit, and 2 by a last test
-module _ (st : State) (n bit : ℕ) (t : Bool) (ok : unlawful st ≡ false) where
+-- what the rows say that a read, a write and an erase begin with, where they pass
+pub record Begun (st : State) (n status : ℕ) : Type 0 where
+  pub lawful : Lawful st
+  pub long : st .length ≤ n
+  pub on : flag (st .attributes) status ≡ true
+
+pub begun : (st : State) (n status : ℕ) → firstRefusal (lentRefusals st n status) ≡ none → Begun st n status
+unfolding lentRefusals
+begun st n status e =
+    let a = row-passed (row (unlawful st) 111) _ e in
+    let b = row-passed (row (ltb n (st .length)) 5) _ (a .1) in
+    let c = row-passed (row (not (flag (st .attributes) status)) 15) _ (b .1) in
+    record { lawful = lawful st (a .0); long = ltb-false n (st .length) (b .0); on = not-false _ (c .0) }
+
+-- the whole table of such a call, with its last row's test: the first three refuse; they pass and the last row refuses; or all pass
+module _ (st : State) (n status : ℕ) (t : Bool) where
   abbrev pub lentRows : List Row
-  lentRows =
-      row (unlawful st) 111 ∷ row (ltb n (st .length)) 5 ∷ row (not (flag (st .attributes) bit)) 15 ∷ row t 2 ∷ []
+  lentRows = lentRefusals st n status ++ (row t 2 ∷ [])
 
-  pub lent-5 : n < st .length → firstRefusal lentRows ≡ some 5
-  lent-5 h = row-passes _ _ _ _ ok (row-applies _ _ _ (lt-ltb _ _ h))
+  pub lent-first : (m : ℕ) → firstRefusal (lentRefusals st n status) ≡ some m → firstRefusal lentRows ≡ some m
+  lent-first m e = then-refused (lentRefusals st n status) _ m e
 
-  module _ (long : st .length ≤ n) where
-    pub lent-15 : (st .attributes / bit % 2 ≡ 1 → ⊥) → firstRefusal lentRows ≡ some 15
-    lent-15 h = row-passes _ _ _ _ ok (row-passes _ _ _ _ (le-ltb _ _ long) (row-applies _ _ _ (ap not (ne-eqb _ _ h))))
+  module _ (e : firstRefusal (lentRefusals st n status) ≡ none) where
+    pub lent-2 : t ≡ true → firstRefusal lentRows ≡ some 2
+    lent-2 h = then-passed (lentRefusals st n status) _ e ∙ row-applies _ _ _ h
 
-    module _ (on : st .attributes / bit % 2 ≡ 1) where
-      pub lent-2 : t ≡ true → firstRefusal lentRows ≡ some 2
-      lent-2 e = row-passes _ _ _ _ ok (row-passes _ _ _ _ (le-ltb _ _ long) (row-passes _ _ _ _ (ap not (eq-eqb _ _ on)) (row-applies _ _ _ e)))
-
-      pub lent-none : t ≡ false → firstRefusal lentRows ≡ none
-      lent-none e =
-          row-passes _ _ _ _ ok (row-passes _ _ _ _ (le-ltb _ _ long) (row-passes _ _ _ _ (ap not (eq-eqb _ _ on)) (row-passes _ _ _ _ e no-row)))
+    pub lent-none : t ≡ false → firstRefusal lentRows ≡ none
+    lent-none h = then-passed (lentRefusals st n status) _ e ∙ row-passes _ _ _ _ h no-row
 
 -- a read, a write, an erase and a block size that are not refused, from what the code has in hand
 pub read-step : (st : State) (v : List ℕ) (b o : ℕ) (buffer : List ℕ) (e s l r k : ℕ) (a : Answer) (after : List ℕ)

@@ -1,4 +1,4 @@
--- `volume::access::count_moved` meets its contract.
+-- `block_service::access::count_moved` meets its contract.
 use native.Mathlib.Omega.{arith}
 use borrow.Author.Needs.{needs}
 use Rattle.block_service.specs.Access.{countMoved}

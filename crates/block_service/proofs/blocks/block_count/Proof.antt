@@ -1,4 +1,4 @@
--- `volume::blocks::block_count` meets its contract.
+-- `block_service::blocks::block_count` meets its contract.
 use Prim.Native.Nat.{_+_, _-_, _*_, _/_, _≤_}
 use mathlib.Core.Path.{refl, _≡_}
 use native.Mathlib.Omega.{arith}

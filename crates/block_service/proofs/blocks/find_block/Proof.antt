@@ -1,4 +1,4 @@
--- `volume::blocks::find_block` meets its contract.
+-- `block_service::blocks::find_block` meets its contract.
 use Prim.Native.Nat.{_+_, _-_, _*_, _/_, _≤_}
 use mathlib.Core.Path.{refl, _≡_, _∙_}
 use native.Mathlib.Nat.{mul-le-mul-right}

@@ -1,4 +1,4 @@
--- `volume::blocks::run_end` meets its contract.
+-- `block_service::blocks::run_end` meets its contract.
 use Prim.Native.Nat.{ℕ, _+_, _-_, _*_, _≤_, _<_}
 use mathlib.Core.Path.{_≡_, refl, _∙_}
 use mathlib.Core.List.{List, _∷_}

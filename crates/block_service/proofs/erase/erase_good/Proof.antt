@@ -1,4 +1,4 @@
--- `volume::erase::erase_good` meets its contract.
+-- `block_service::erase::erase_good` meets its contract.
 use mathlib.Core.Path.{refl}
 use borrow.Author.Needs.{needs}
 use Rattle.block_service.proofs.erase.erase_good.Statement.{statement}

@@ -1,4 +1,4 @@
--- `volume::erase::erase_list` meets its contract.
+-- `block_service::erase::erase_list` meets its contract.
 use Prim.Native.Nat.{ℕ, _-_, _≤_}
 use mathlib.Core.Path.{_≡_, refl, _∙_}
 use mathlib.Core.Bool.{true}
@@ -6,9 +6,9 @@ use native.Mathlib.Omega.{arith}
 use borrow.Author.Needs.{needs}
 use denote.Ref.{now}
 use lib.ListN.{length, drop}
+use Rattle.common.specs.Lists.{edit}
 use Rattle.volume.specs.BlockMap.{blocks}
 use Rattle.block_service.specs.Erase.{goodList}
-use Rattle.block_service.specs.Service.{edit}
 use Rattle.block_service.proofs.erase.Lists.{listErased, good-even, pair-good, erase-next, erase-end, past-list}
 use Rattle.block_service.proofs.erase.erase_list.Statement.{statement}
 use Rattle.block_service.proofs.erase.erase_list.Tie as tie

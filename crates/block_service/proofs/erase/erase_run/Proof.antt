@@ -1,4 +1,4 @@
--- `volume::erase::erase_run` meets its contract.
+-- `block_service::erase::erase_run` meets its contract.
 use Prim.Native.Nat.{_+_, _≤_}
 use mathlib.Core.Path.{_≡_, sym, _∙_}
 use native.Mathlib.Omega.{arith}

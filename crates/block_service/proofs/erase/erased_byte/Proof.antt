@@ -1,16 +1,20 @@
--- `volume::erase::erased_byte` meets its contract.
-use borrow.Author.Tests.{eq-eqb, ne-eqb}
-use Rattle.block_service.specs.Erase.{erasedByte}
+-- `block_service::erase::erased_byte` meets its contract.
+use mathlib.Core.Path.{sym, _∙_}
+use borrow.Author.Needs.{needs}
+use Rattle.block_service.specs.Access.{erasedByte}
 use Rattle.block_service.proofs.erase.erased_byte.Statement.{statement}
 use Rattle.block_service.proofs.erase.erased_byte.Tie as tie
 
+is-set-requires : tie.Need-is-set-requires
+is-set-requires c κs = search needs
+
 returns : tie.Need-returns
 unfolding erasedByte
-returns c = simp (eq-eqb _ _ (c .if1 .taken))
+returns c = rw (sym (c .before .is-set .ensures) ∙ c .if1 .taken)
 
 returns-2 : tie.Need-returns-2
 unfolding erasedByte
-returns-2 c = simp (ne-eqb _ _ (c .if1 .left))
+returns-2 c = rw (sym (c .before .is-set .ensures) ∙ c .if1 .left)
 
 pub erased-byte-spec : {M : Type 1} → statement M
-erased-byte-spec = tie.close (tie.spec returns returns-2)
+erased-byte-spec = tie.close (tie.spec is-set-requires returns returns-2)

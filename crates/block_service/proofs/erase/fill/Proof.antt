@@ -1,10 +1,10 @@
--- `volume::erase::fill` meets its contract.
+-- `block_service::erase::fill` meets its contract.
 use Prim.Native.Nat.{_-_, _≤_}
 use mathlib.Core.Path.{_≡_, refl, sym, _∙_}
 use native.Mathlib.Omega.{arith}
 use borrow.Author.Needs.{needs}
 use lib.ListN.{length, length-set}
-use Rattle.block_service.specs.Service.{edit}
+use Rattle.common.specs.Lists.{edit}
 use Rattle.common.proofs.Edit.{editedTo, edit-start, edit-next, edit-done}
 use Rattle.block_service.proofs.erase.fill.Statement.{statement}
 use Rattle.block_service.proofs.erase.fill.Tie as tie

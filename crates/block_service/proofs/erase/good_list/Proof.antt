@@ -1,4 +1,4 @@
--- `volume::erase::good_list` meets its contract.
+-- `block_service::erase::good_list` meets its contract.
 use Prim.Native.Nat.{_-_, _≤_}
 use mathlib.Core.Path.{_≡_, refl, _∙_}
 use native.Mathlib.Omega.{arith}

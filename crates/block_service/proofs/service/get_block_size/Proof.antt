@@ -1,28 +1,48 @@
--- `volume::service::get_block_size` meets its contract.
+-- `block_service::service::get_block_size` meets its contract.
 use mathlib.Core.Path.{_≡_, sym, _∙_}
 use mathlib.Core.Bool.{false}
 use borrow.Author.Tests.{le-leb, lt-leb}
 use borrow.Author.Needs.{needs}
-use Rattle.volume.specs.State.{unlawful}
+use Rattle.common.proofs.Refusals.{row-applies, row-passes, no-row}
+use Rattle.volume.specs.State.{stateWith, mapOf, unlawful}
+use Rattle.volume.proofs.state.Lawful.{lawful, lent-bytes}
+use Rattle.block_service.specs.Blocks.{place}
 use Rattle.block_service.specs.Service.{getBlockSize, blockSizeAnswer, bufferOf, refusals}
 use Rattle.block_service.proofs.blocks.Places.{place-lost, place-found}
-use Rattle.block_service.proofs.service.Steps.{unlawful-step, refused-step, size-step, row-applies, row-passes, no-row}
+use Rattle.block_service.proofs.service.Steps.{unlawful-step, refused-step, size-step}
 use Rattle.block_service.proofs.service.get_block_size.Statement.{statement}
 use Rattle.block_service.proofs.service.get_block_size.Tie as tie
 
--- a state that passed the first test is lawful
-ok : (c : tie.Else1) → unlawful (c .before .before .args .st) ≡ false
-ok c = sym (c .before .unlawful-state .ensures) ∙ c .if1 .left
+-- where the state was told lawful from not
+abbrev entry : tie.After-unlawful-state → tie.Start
+entry c = c .before .before .before
+
+told : (c : tie.After-unlawful-state) → c .unlawful-state .result ≡ unlawful (entry c .args .st)
+unfolding stateWith
+told c = c .unlawful-state .ensures (entry c .args .st .guid)
+
+-- a state that passed the test is lawful
+ok : (c : tie.Else1) → unlawful (entry (c .before) .args .st) ≡ false
+ok c = sym (told (c .before)) ∙ c .if1 .left
+
+-- the place that was answered, in a state that passed the test
+abbrev passed : tie.After-locate → tie.Else1
+passed c = c .before .before
+
+located : (c : tie.After-locate)
+    → c .locate .result ≡ place (mapOf (entry (passed c .before) .args .st)) (entry (passed c .before) .args .block)
+unfolding mapOf
+located c = c .locate .ensures
 
 unlawful-state-requires : tie.Need-unlawful-state-requires
 unlawful-state-requires c κs = search needs
 
 returns : tie.Need-returns
 unfolding blockSizeAnswer bufferOf
-returns c = λ v. unlawful-step _ v (getBlockSize _) (sym (c .before .unlawful-state .ensures) ∙ c .if1 .taken)
+returns c = λ v. unlawful-step _ v (getBlockSize _) (sym (told (c .before)) ∙ c .if1 .taken)
 
 locate-requires : tie.Need-locate-requires
-locate-requires c κs = ok c
+locate-requires c κs = let k = lawful _ (ok (c .before)) in (k .entries, lent-bytes _ k)
 
 enum-known-found : tie.Need-enum-known-found
 enum-known-found c = search needs
@@ -32,14 +52,19 @@ enum-told c = search needs
 
 returns-2 : tie.Need-returns-2
 unfolding blockSizeAnswer bufferOf refusals
-returns-2 c = λ v. refused-step _ v (getBlockSize _) 2 (row-passes _ _ _ _ (ok (c .before .before .before)) (row-applies _ _ _ (le-leb _ _ (place-lost _ _ (sym (c .before .before .locate .ensures) ∙ c .enum-told .given .1)))))
+returns-2 c =
+    let scanned = c .before .before in
+    let lost = place-lost _ _ (sym (located scanned) ∙ c .enum-told .given .1) in
+    λ v. refused-step _ v (getBlockSize _) 2 (row-passes _ _ _ _ (ok (passed scanned)) (row-applies _ _ _ (le-leb _ _ lost)))
 
 returns-3 : tie.Need-returns-3
 unfolding blockSizeAnswer refusals
 returns-3 c =
+    let scanned = c .before .before .before in
+    let k = sym (located scanned) ∙ c .before .found .given .1 in
     λ v.
-    let k = sym (c .before .before .before .locate .ensures) ∙ c .before .found .given .1 in
-    size-step _ v _ _ _ _ _ (row-passes _ _ _ _ (ok (c .before .before .before .before)) (row-passes _ _ _ _ (lt-leb _ _ (place-found _ _ _ _ _ _ k)) no-row)) k
+    size-step _ v _ _ _ _ _
+    (row-passes _ _ _ _ (ok (passed scanned)) (row-passes _ _ _ _ (lt-leb _ _ (place-found _ _ _ _ _ _ k)) no-row)) k
 
 pub get-block-size-spec : {M : Type 1} → statement M
 get-block-size-spec =

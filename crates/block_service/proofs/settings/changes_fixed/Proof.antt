@@ -1,4 +1,4 @@
--- `volume::settings::changes_fixed` meets its contract.
+-- `block_service::settings::changes_fixed` meets its contract.
 use mathlib.Core.Bool.{or-false}
 use borrow.Author.Tests.{eq-eqb, ne-eqb}
 use Rattle.common.specs.Refusals.{any}

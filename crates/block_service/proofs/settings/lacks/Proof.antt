@@ -1,4 +1,4 @@
--- `volume::settings::lacks` meets its contract.
+-- `block_service::settings::lacks` meets its contract.
 use mathlib.Core.Path.{sym}
 use mathlib.Core.Bool.{not, or-false}
 use borrow.Author.Needs.{needs}
