@@ -11,7 +11,10 @@ use borrow.Author.Tests.{lt-ltb, le-leb, ltb-true, ltb-false}
 use lib.Dec.{T, leb, ltb}
 use lib.ListN.{length, getD, take, drop, List·getD-eq-default, length-take, length-drop}
 use lib.Seq.{ext-getD, getD-take, getD-drop}
-use Rattle.block_service.specs.Service.{Answer, Call, ByteChange, keep, store, erase, Effect, reply, setTo, copyOut, change, decide, Result, edit, changedByte, perform, bufferOf, step}
+use Rattle.common.specs.Answers.{Answer}
+use Rattle.common.specs.Lists.{edit}
+use Rattle.block_service.specs.Access.{ByteChange, keep, store, erase, changedByte}
+use Rattle.block_service.specs.Service.{Call, Effect, reply, setTo, copyOut, change, decide, Result, perform, bufferOf, step}
 use Rattle.volume.specs.declared.state.State.{State}
 use Rattle.isolation.specs.Runs.{run, Seen, seen}
 use Rattle.common.proofs.Edit.{length-edit, getD-edit}

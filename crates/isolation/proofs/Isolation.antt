@@ -8,20 +8,19 @@ use native.Mathlib.Omega.{arith}
 use borrow.Author.Tests.{leb-true, ltb-true, leb-false}
 use lib.Dec.{T, leb, ltb, eqb}
 use lib.ListN.{length}
-use Rattle.common.specs.Refusals.{firstRefusal}
-use Rattle.block_service.specs.Access.{countMoved}
+use Rattle.common.specs.Answers.{Answer, refused, success, short}
+use Rattle.common.specs.Refusals.{firstRefusal, unlessRefused}
+use Rattle.block_service.specs.Access.{countMoved, keep, erase}
 use Rattle.volume.specs.BlockMap.{blocks}
 use Rattle.block_service.specs.Blocks.{place, inBlock, startOf, lengthOf}
-use Rattle.block_service.specs.Erase.{names}
-use Rattle.volume.specs.Header.{openVolume}
-use Rattle.block_service.specs.Service.{Answer, refused, success, short, Call, getAttributes, setAttributes, getPhysicalAddress, getBlockSize, read, write, eraseBlocks, keep, erase, Effect, refusals, effect, unless, decide, moveAnswer, eraseChange, Result, perform, step}
+use Rattle.block_service.specs.Erase.{names, eraseChange}
+use Rattle.volume.specs.Header.{Opens, opened, openVolume}
+use Rattle.block_service.specs.Service.{Call, getAttributes, setAttributes, getPhysicalAddress, getBlockSize, read, write, eraseBlocks, Effect, reply, refusals, effect, decide, moveAnswer, Result, perform, step}
 use Rattle.volume.specs.State.{mapOf, unlawful}
 use Rattle.block_service.specs.declared.blocks.Place.{Place}
 use Rattle.block_service.specs.declared.blocks.Place.the-variants.{At, Missing}
 use Rattle.volume.specs.declared.state.State.{State}
 use Rattle.isolation.specs.Runs.{run, seen, isSuccess, isMoved, namesBlock, erased, Alike, NoEarlyRead, NeverErased, Isolated}
-use Rattle.volume.specs.declared.header.Opened.{Opened}
-use Rattle.volume.specs.declared.header.Opening.the-variants as Opening
 use Rattle.block_service.proofs.blocks.Places.{inBlock-blockAt, inBlock-of-bounds, in-one-block, found-start, found-end, place-lost}
 use Rattle.block_service.proofs.service.Effects.{passed-success, passed-read}
 use Rattle.block_service.proofs.service.Kept.{map-kept, lawful-kept}
@@ -66,7 +65,7 @@ success-of R (short values) t f = absurd t
 
 -- a call that was not refused does its effect
 allowed-effect : (st : State) (n : ℕ) (c : Call) → firstRefusal (refusals st n c) ≡ none → decide st n c ≡ effect st c
-unfolding decide unless
+unfolding decide
 allowed-effect st n c e = rw e
 
 -- the erase of a list erases every byte of every block that it names
@@ -140,17 +139,17 @@ read-effect st v b o buffer i e t = (
 
 read-copies : (st : State) (v : List ℕ) (b o : ℕ) (buffer : List ℕ) (i : ℕ) → T (copiesByte (decide st (length v) (read b o buffer)) i)
     → (T (inBlock (mapOf st) b i)) × T (isMoved (step st v (read b o buffer) .answer))
-unfolding decide unless copiesByte
+unfolding decide copiesByte
 read-copies st v b o buffer i t = go (firstRefusal (refusals st (length v) (read b o buffer))) refl t
   where
-    go : (x : Option ℕ) → firstRefusal (refusals st (length v) (read b o buffer)) ≡ x → T (copiesByte (unless x (effect st (read b o buffer))) i)
+    go : (x : Option ℕ) → firstRefusal (refusals st (length v) (read b o buffer)) ≡ x → T (copiesByte (unlessRefused (λ n. reply (refused n)) x (effect st (read b o buffer))) i)
         → (T (inBlock (mapOf st) b i)) × T (isMoved (step st v (read b o buffer) .answer))
     go none e t = read-effect st v b o buffer i e t
     go (some n) e t = absurd t
 
 -- and no other call copies out any
-quiet : (o : Option ℕ) (e : Effect) (i : ℕ) → (T (copiesByte e i) → ⊥) → T (copiesByte (unless o e) i) → ⊥
-unfolding unless copiesByte
+quiet : (o : Option ℕ) (e : Effect) (i : ℕ) → (T (copiesByte e i) → ⊥) → T (copiesByte (unlessRefused (λ n. reply (refused n)) o e) i) → ⊥
+unfolding copiesByte
 quiet none e i h t = h t
 quiet (some n) e i h t = t
 
@@ -207,10 +206,10 @@ isolated D st v w cs h alike early =
     let X : ℕ → Type 0 = InBlocks (mapOf st) D in
     let r = same-runs X st v w cs h (λ i n. alike i (λ b d t. n (b, d, t))) (unread D X st v cs (λ i x. x) early) in
     record {
-      seen = r .same-seen;
-      state = r .same-state;
-      length = r .same-length;
-      volume =
+      all-seen = r .same-seen;
+      end-state = r .same-state;
+      end-length = r .same-length;
+      end-volume =
           λ i n.
           r .same-bytes i
           (λ x.
@@ -221,8 +220,8 @@ isolated D st v w cs h alike early =
 
 -- DEMAND 3, from opening on: two volumes of equal lent length, opened to the same state, alike except inside the blocks of a set
 pub demand-3 : (D : ℕ → Type 0) (base : ℕ) (st : State) (v w : List ℕ) (calls : List Call)
-    → openVolume v base ≡ record { answer = Opening.Success; state = st }
-    → openVolume w base ≡ record { answer = Opening.Success; state = st }
+    → openVolume v base ≡ opened st
+    → openVolume w base ≡ opened st
     → length v ≡ length w → Alike (mapOf st) D v w → NoEarlyRead D st v calls → Isolated D st v w calls
 demand-3 D base st v w calls opened-v opened-w h alike early = isolated D st v w calls h alike early
 
@@ -235,11 +234,11 @@ run-lawful st v [] ok = ok
 run-lawful st v (c ∷ cs) ok = run-lawful (step st v c .state) (step st v c .volume) cs (lawful-kept st v c ok)
 
 -- so from opening on every call of a run meets a lawful state: none is refused with 111
-pub opened-run-lawful : (base : ℕ) (st : State) (v : List ℕ) (before : List Call) → openVolume v base ≡ record { answer = Opening.Success; state = st }
+pub opened-run-lawful : (base : ℕ) (st : State) (v : List ℕ) (before : List Call) → openVolume v base ≡ opened st
     → unlawful (run st v before .state) ≡ false
-opened-run-lawful base st v before opened =
+opened-run-lawful base st v before opening =
     run-lawful st v before
-    (subst (λ (o : Opened). unlawful (o .state) ≡ false) opened (opened-lawful v base (ap (λ (o : Opened). o .answer) opened) .0))
+    (subst (λ (o : Opens). unlawful (o .state) ≡ false) opening (opened-lawful v base (ap (λ (o : Opens). o .answer) opening) .0))
 
 -- later calls follow the state and never read the header, or any other byte, to decide: on volumes of one length a call answers the same and leaves
 -- the same state, whatever the bytes are

@@ -1,3 +1,3 @@
 pub mod Bytes
 pub mod Isolation
-pub mod Instances
+pub mod Theorems

@@ -6,9 +6,10 @@ use mathlib.Core.Bool.{Bool, true, false, not, _&&_, _||_}
 use mathlib.Core.List.{List, [], _∷_, _++_}
 use lib.Dec.{T}
 use lib.ListN.{length, getD}
+use Rattle.common.specs.Answers.{Answer, refused, success, short}
 use Rattle.block_service.specs.Blocks.{inBlock}
 use Rattle.block_service.specs.Erase.{names}
-use Rattle.block_service.specs.Service.{Answer, refused, success, short, Call, getAttributes, setAttributes, getPhysicalAddress, getBlockSize, read, write, eraseBlocks, step}
+use Rattle.block_service.specs.Service.{Call, getAttributes, setAttributes, getPhysicalAddress, getBlockSize, read, write, eraseBlocks, step}
 use Rattle.volume.specs.State.{mapOf}
 use Rattle.volume.specs.declared.state.State.{State}
 
@@ -81,7 +82,7 @@ NeverErased D st v calls b = D b × T (not (erased st v calls b))
 -- what demand 3 claims of a run on two volumes: everything seen is the same after every call, and at the end the states, the lengths, and
 -- every volume byte outside the blocks of the set that were never successfully erased
 pub record Isolated (D : ℕ → Type 0) (st : State) (v w : List ℕ) (calls : List Call) : Type 0 where
-  pub seen : seen st v calls ≡ seen st w calls
-  pub state : run st v calls .state ≡ run st w calls .state
-  pub length : length (run st v calls .volume) ≡ length (run st w calls .volume)
-  pub volume : Alike (mapOf st) (NeverErased D st v calls) (run st v calls .volume) (run st w calls .volume)
+  pub all-seen : seen st v calls ≡ seen st w calls
+  pub end-state : run st v calls .state ≡ run st w calls .state
+  pub end-length : length (run st v calls .volume) ≡ length (run st w calls .volume)
+  pub end-volume : Alike (mapOf st) (NeverErased D st v calls) (run st v calls .volume) (run st w calls .volume)

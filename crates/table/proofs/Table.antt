@@ -4,25 +4,26 @@ use Prim.Native.Nat.{ℕ}
 use mathlib.Core.Path.{_≡_, refl}
 use mathlib.Core.List.{List, [], _∷_}
 use lib.ListN.{set, replicate}
+use Rattle.common.specs.Answers.{numberOf, valuesOf, refused, success}
+use Rattle.common.specs.Lists.{edit}
 use Rattle.common.specs.Refusals.{firstRefusal, any}
 use Rattle.numbers.specs.LittleEndian.{le}
-use Rattle.block_service.specs.Access.{countMoved, writtenByte}
+use Rattle.block_service.specs.Access.{countMoved, writtenByte, writeChange, changedByte}
 use Rattle.volume.specs.Attributes.{attributesFault, baseFault}
 use Rattle.volume.specs.BlockMap.{blocks, bytes, hasZero, allZero, sizeFault}
 use Rattle.block_service.specs.Blocks.{place, placeFrom, startOf, lengthOf, leftOf, blockAt}
-use Rattle.block_service.specs.Erase.{endOfList, goodList, names, erasedByte}
-use Rattle.volume.specs.Header.{openVolume, answered, stateBeside, stateAt, wordsAt, wordSum, openRefusals, headerLengthFault, mapFault}
-use Rattle.block_service.specs.Service.{refusals, moveAnswer, writeChange, eraseChange, effect, unless, decide, withAttributes, edit, changedByte, perform, bufferOf, Result, numberOf, valuesOf, Call, setAttributes, read, write, eraseBlocks, step}
+use Rattle.block_service.specs.Erase.{endOfList, goodList, names, erasedByte, eraseChange}
+use Rattle.volume.specs.Header.{openVolume, opened, opens, stateAt, wordsAt, wordSum, openRefusals, headerLengthFault, mapFault}
+use Rattle.block_service.specs.Service.{refusals, lentRefusals, moveAnswer, effect, decide, withAttributes, perform, bufferOf, Result, Call, setAttributes, read, write, eraseBlocks, step}
 use Rattle.block_service.specs.Settings.{changesFixed, raises, clears, lacksCapability, settingRefusals}
 use Rattle.volume.specs.State.{mapOf, stateOf, stateWith, zeroState, unlawful}
-use Rattle.volume.specs.declared.header.Opening.the-variants as Opening
 use Rattle.sections.specs.Kinds.{kindOf}
 use Rattle.sections.specs.Header.{headAt, headFaults, sectionAt, packed, contentsAt, wrongContents}
 use Rattle.sections.specs.Walk.{streamWalk, walk, siblings, meet, afterPadding, zeros, andThen}
 use Rattle.sections.specs.Search.{searchOf, sections, firstFault, ofType}
 use Rattle.sections.specs.declared.search.Found.the-variants as Found
-use Rattle.isolation.specs.SampleA.{headerA, sampleA}
-use Rattle.isolation.proofs.Instances.{stateA}
+use Rattle.table.specs.SampleA.{headerA, sampleA}
+use Rattle.table.proofs.Instances.{stateA}
 
 -- a call on sample A and the state that opening it answers
 unfoldable pub onA : Call → Result
@@ -47,58 +48,58 @@ stream = 0x05 ∷ 0x00 ∷ 0x00 ∷ 0x19 ∷ 0xAA ∷ 0x00 ∷ 0x00 ∷ 0x00 ∷
 
 pub record Table : Type 0 where
   -- A opens: GUID zero, length 2,048, attributes 0x0E3F, base 0, one entry of 4 blocks of 512
-  pub p1 : openVolume sampleA 0 ≡ record { answer = Opening.Success; state = stateOf (replicate 16 0) 2048 0x0E3F 0 1 (4 ∷ 512 ∷ []) }
+  pub P1 : openVolume sampleA 0 ≡ opened (stateOf (replicate 16 0) 2048 0x0E3F 0 1 (4 ∷ 512 ∷ []))
   -- A with checksum C1 57 gives 105
-  pub p2 : openVolume badSum 0 ≡ record { answer = Opening.Refused 105; state = zeroState }
+  pub P2 : openVolume badSum 0 ≡ opens (refused 105) zeroState
   -- reading block 1 offset 500, 12 bytes: success, 12
-  pub p3 : Answers (onA (read 1 500 (replicate 12 0))) 0 (12 ∷ [])
+  pub P3 : Answers (onA (read 1 500 (replicate 12 0))) 0 (12 ∷ [])
   -- 13 bytes: 4, 12
-  pub p4 : Answers (onA (read 1 500 (replicate 13 0))) 4 (12 ∷ [])
+  pub P4 : Answers (onA (read 1 500 (replicate 13 0))) 4 (12 ∷ [])
   -- offset 512, 1 byte: 4, 0
-  pub p5 : Answers (onA (read 1 512 (replicate 1 0))) 4 (0 ∷ [])
+  pub P5 : Answers (onA (read 1 512 (replicate 1 0))) 4 (0 ∷ [])
   -- block 4: 2
-  pub p6 : Answers (onA (read 4 0 (replicate 1 0))) 2 []
+  pub P6 : Answers (onA (read 4 0 (replicate 1 0))) 2 []
   -- in A writing 0F then F0 at block 2 offset 0 leaves 00 at byte 1024, and every other byte as it was
-  pub p7 : after (onA (write 2 0 (0x0F ∷ []))) (write 2 0 (0xF0 ∷ [])) .volume ≡ set sampleA 1024 0x00
+  pub P7 : after (onA (write 2 0 (0x0F ∷ []))) (write 2 0 (0xF0 ∷ [])) .volume ≡ set sampleA 1024 0x00
   -- erase 3, 1, end: good; block 3 holds FF already, so every byte is as it was
-  pub p8 : Answers (onA (eraseBlocks (3 ∷ 1 ∷ endOfList ∷ []))) 0 []
-  pub p8-bytes : onA (eraseBlocks (3 ∷ 1 ∷ endOfList ∷ [])) .volume ≡ sampleA
+  pub P8 : Answers (onA (eraseBlocks (3 ∷ 1 ∷ endOfList ∷ []))) 0 []
+  pub P8-bytes : onA (eraseBlocks (3 ∷ 1 ∷ endOfList ∷ [])) .volume ≡ sampleA
   -- and where byte 1600 of it was written to 00, it is FF again
-  pub p8-again : after (onA (write 3 64 (0x00 ∷ []))) (eraseBlocks (3 ∷ 1 ∷ endOfList ∷ [])) .volume ≡ sampleA
+  pub P8-again : after (onA (write 3 64 (0x00 ∷ []))) (eraseBlocks (3 ∷ 1 ∷ endOfList ∷ [])) .volume ≡ sampleA
   -- 3, 2, end: 2
-  pub p9 : Answers (onA (eraseBlocks (3 ∷ 2 ∷ endOfList ∷ []))) 2 []
+  pub P9 : Answers (onA (eraseBlocks (3 ∷ 2 ∷ endOfList ∷ []))) 2 []
   -- 2^64 - 2, 3, end: 2
-  pub p10 : Answers (onA (eraseBlocks (0xFFFFFFFFFFFFFFFE ∷ 3 ∷ endOfList ∷ []))) 2 []
+  pub P10 : Answers (onA (eraseBlocks (0xFFFFFFFFFFFFFFFE ∷ 3 ∷ endOfList ∷ []))) 2 []
   -- settings 0x0E3B: good, the state has them, and reads then give 15
-  pub p11 : Answers (onA (setAttributes 0x0E3B)) 0 (0x0E3B ∷ [])
-  pub p11-state : onA (setAttributes 0x0E3B) .state ≡ stateOf (replicate 16 0) 2048 0x0E3B 0 1 (4 ∷ 512 ∷ [])
-  pub p11-read : Answers (after (onA (setAttributes 0x0E3B)) (read 0 0 (replicate 1 0))) 15 []
+  pub P11 : Answers (onA (setAttributes 0x0E3B)) 0 (0x0E3B ∷ [])
+  pub P11-state : onA (setAttributes 0x0E3B) .state ≡ stateOf (replicate 16 0) 2048 0x0E3B 0 1 (4 ∷ 512 ∷ [])
+  pub P11-read : Answers (after (onA (setAttributes 0x0E3B)) (read 0 0 (replicate 1 0))) 15 []
   -- settings 0x0EBF: 2
-  pub p12 : Answers (onA (setAttributes 0x0EBF)) 2 []
+  pub P12 : Answers (onA (setAttributes 0x0EBF)) 2 []
   -- raw instance 1 is empty, instance 2 gives 14
-  pub p13 : searchOf stream 0x19 1 ≡ Found.Part 12 12
-  pub p13-none : searchOf stream 0x19 2 ≡ Found.Refused 14
+  pub P13 : searchOf stream 0x19 1 ≡ Found.Part 12 12
+  pub P13-none : searchOf stream 0x19 2 ≡ Found.Refused 14
 
 pub table : Table
-unfolding stateA onA after badSum stream numberOf valuesOf headerA sampleA firstRefusal any le countMoved writtenByte attributesFault baseFault blocks bytes hasZero allZero sizeFault place placeFrom startOf lengthOf leftOf blockAt goodList names erasedByte openVolume answered stateBeside stateAt wordsAt wordSum openRefusals headerLengthFault mapFault refusals moveAnswer writeChange eraseChange effect unless decide withAttributes edit changedByte perform bufferOf step changesFixed raises clears lacksCapability settingRefusals mapOf stateOf stateWith zeroState unlawful kindOf headAt headFaults sectionAt packed contentsAt wrongContents streamWalk walk siblings meet afterPadding zeros andThen searchOf sections firstFault ofType
+unfolding stateA onA after badSum stream numberOf valuesOf headerA sampleA firstRefusal any le countMoved writtenByte attributesFault baseFault blocks bytes hasZero allZero sizeFault place placeFrom startOf lengthOf leftOf blockAt goodList names erasedByte openVolume stateAt wordsAt wordSum openRefusals headerLengthFault mapFault refusals lentRefusals moveAnswer writeChange eraseChange effect decide withAttributes edit changedByte perform bufferOf step changesFixed raises clears lacksCapability settingRefusals mapOf stateOf stateWith zeroState unlawful kindOf headAt headFaults sectionAt packed contentsAt wrongContents streamWalk walk siblings meet afterPadding zeros andThen searchOf sections firstFault ofType
 table =
     record {
-      p1 = refl;
-      p2 = refl;
-      p3 = (refl, refl);
-      p4 = (refl, refl);
-      p5 = (refl, refl);
-      p6 = (refl, refl);
-      p7 = refl;
-      p8 = (refl, refl);
-      p8-bytes = refl;
-      p8-again = refl;
-      p9 = (refl, refl);
-      p10 = (refl, refl);
-      p11 = (refl, refl);
-      p11-state = refl;
-      p11-read = (refl, refl);
-      p12 = (refl, refl);
-      p13 = refl;
-      p13-none = refl;
+      P1 = refl;
+      P2 = refl;
+      P3 = (refl, refl);
+      P4 = (refl, refl);
+      P5 = (refl, refl);
+      P6 = (refl, refl);
+      P7 = refl;
+      P8 = (refl, refl);
+      P8-bytes = refl;
+      P8-again = refl;
+      P9 = (refl, refl);
+      P10 = (refl, refl);
+      P11 = (refl, refl);
+      P11-state = refl;
+      P11-read = (refl, refl);
+      P12 = (refl, refl);
+      P13 = refl;
+      P13-none = refl;
     }

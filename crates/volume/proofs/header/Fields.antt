@@ -122,6 +122,15 @@ module _ (s : List ℕ) (base : ℕ) where
     unfolding openVolume
     open-success e = rw (rows-split s (stateAt s base), then-passed (bytesRefusals s) (fieldsRefusals s (stateAt s base)) early, e)
 
+  -- opening by its table as a whole
+  pub opening-refused : (n : ℕ) → firstRefusal (openRefusals s (stateAt s base)) ≡ some n → openVolume s base ≡ opens (refused n) zeroState
+  unfolding openVolume
+  opening-refused n e = rw e
+
+  pub opening-success : firstRefusal (openRefusals s (stateAt s base)) ≡ none → openVolume s base ≡ opened (stateAt s base)
+  unfolding openVolume
+  opening-success e = rw e
+
   -- where opening succeeds no row applies
   pub opened-passed : openVolume s base .answer ≡ success [] → firstRefusal (openRefusals s (stateAt s base)) ≡ none
   unfolding openVolume

@@ -44,7 +44,7 @@ take-same v w n at e h =
 -- reserved bytes it sees only whether the words sum to 0.
 module _ (v w : List ℕ) (base : ℕ) (e : length v ≡ length w) (front : Agree v w 16 50) (least : Agree v w 55 72)
     (back : Agree v w 55 (headerLengthAt v)) where
-  pub same-header-length : headerLengthAt v ≡ headerLengthAt w
+  same-header-length : headerLengthAt v ≡ headerLengthAt w
   same-header-length = le-same 2 v w 48 (λ i p q. front i (omega arith) (omega arith))
 
   -- the rows before the sum's
@@ -83,7 +83,7 @@ module _ (v w : List ℕ) (base : ℕ) (e : length v ≡ length w) (front : Agre
       rw (e, sign, revised, sums, same-header-length)
 
   -- where the sums of both are 0, or of neither, opening answers the same
-  pub open-same : Zero v ≡ Zero w → openVolume v base ≡ openVolume w base
+  open-same : Zero v ≡ Zero w → openVolume v base ≡ openVolume w base
   unfolding openVolume
   open-same sums = go (firstRefusal (bytesRefusals v)) refl
     where
@@ -140,7 +140,7 @@ unfolding headerLengthFault any
 header-length-good h lent a b d e = rw (eq-eqb (h % 8) 0 a, le-ltb h 72 b, le-ltb 320 h d, le-ltb lent h e)
 
 -- the map of a state made of n entries' words
-pub mapOf-stateOf : (guid : List ℕ) (len a base n : ℕ) (words : List ℕ) → length words ≡ 2 * n → mapOf (stateOf guid len a base n words) ≡ words
+mapOf-stateOf : (guid : List ℕ) (len a base n : ℕ) (words : List ℕ) → length words ≡ 2 * n → mapOf (stateOf guid len a base n words) ≡ words
 unfolding mapOf stateOf stateWith
 mapOf-stateOf guid len a base n words e = take-at words _ (2 * n) e
 

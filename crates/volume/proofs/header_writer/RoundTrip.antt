@@ -37,7 +37,7 @@ wordSum-header c guid len a words e small =
     rw (wordSum-append f (leBytes 2 c ++ b) even, wordSum-append f (leBytes 2 0 ++ b) even, wordSum-two c b, wordSum-two 0 b) (omega arith)
 
 -- the words of a written header sum to 0 modulo 65,536
-pub sum-zero : (guid : List ℕ) (len a : ℕ) (words : List ℕ) → length guid ≡ 16 → wordSum (headerBytes guid len a words) % wordModulus ≡ 0
+sum-zero : (guid : List ℕ) (len a : ℕ) (words : List ℕ) → length guid ≡ 16 → wordSum (headerBytes guid len a words) % wordModulus ≡ 0
 unfolding headerBytes
 sum-zero guid len a words e =
     let s = wordSum (headerWith 0 guid len a words) in
@@ -218,7 +218,7 @@ words-passed words = go (hasZero words) (eqb (length words % 2) 0) refl
     go false true q p = (refl, eqb-true (length words % 2) 0 q)
     go false false q p = absurd (true≢false p)
 
-pub record Accepted (len a : ℕ) (words : List ℕ) : Type 0 where
+record Accepted (len a : ℕ) (words : List ℕ) : Type 0 where
   pub nonzero : hasZero words ≡ false
   pub even : length words % 2 ≡ 0
   pub size : sizeFault (length words / 2) words len ≡ false

@@ -2,15 +2,16 @@
 use mathlib.Core.Path.{_≡_, sym, _∙_}
 use mathlib.Core.Bool.{true, false}
 use mathlib.Core.List.{List}
-use Prim.Native.Nat.{ℕ}
+use Prim.Native.Nat.{ℕ, _%_}
+use native.Mathlib.Omega.{arith}
 use borrow.Author.Tests.{eq-eqb, ne-eqb, lt-ltb, le-ltb}
 use borrow.Author.Needs.{needs}
 use denote.Ref.{now}
 use lib.Seq.{length-take-le}
 use lib.Dec.{eqb, ltb}
-use lib.ListN.{length}
+use lib.ListN.{length, take}
 use Rattle.common.specs.Refusals.{firstRefusal}
-use Rattle.volume.specs.Header.{headerLengthAt, headerLengthFault, minHeader, openRefusals, refusalOf, revision, revisionAt, signature, signatureAt}
+use Rattle.volume.specs.Header.{headerLengthAt, headerLengthFault, minHeader, openRefusals, refusalOf, revision, revisionAt, signature, signatureAt, wordModulus, wordSum}
 use Rattle.volume.proofs.header.Fields.{header-length-passed}
 use Rattle.volume.proofs.header.bytes_refusal.Statement.{statement}
 use Rattle.volume.proofs.header.bytes_refusal.Tie as tie
@@ -33,13 +34,19 @@ long : (c : tie.Else1) → ltb (length (bytes c)) minHeader ≡ false
 long c = le-ltb _ _ (c .if1 .left)
 
 signed : (c : tie.Else2) → eqb (signatureAt (bytes (one c))) signature ≡ true
-signed c = eq-eqb _ _ (sym (c .before .u32-at .ensures) ∙ c .if2 .left)
+signed c = eq-eqb (signatureAt (bytes (one c))) signature (omega (arith, c .before .u32-at .ensures))
 
 revised : (c : tie.Else3) → eqb (revisionAt (bytes (one (two c)))) revision ≡ true
-revised c = eq-eqb _ _ (sym (c .before .byte-at .ensures) ∙ c .if3 .left)
+revised c = eq-eqb (revisionAt (bytes (one (two c)))) revision (omega (arith, c .before .byte-at .ensures))
 
 measured : (c : tie.Else4) → let s = bytes (one (two (three c))) in headerLengthFault (headerLengthAt s) (length s) ≡ false
 measured c = rw (c .before .before .u16-at .ensures) at (sym (c .before .header-length-fault .ensures) ∙ c .if4 .left)
+
+abbrev sum : tie.After-word-sum → ℕ
+sum c = let s = bytes (one (two (three (c .before .before)))) in wordSum (take (headerLengthAt s) s)
+
+summed : (c : tie.After-word-sum) → c .word-sum .result ≡ sum c
+summed c = rw (c .before .before .before .before .u16-at .ensures) at (c .word-sum .ensures)
 
 returns : tie.Need-returns
 unfolding refusalOf firstRefusal openRefusals
@@ -50,7 +57,7 @@ u32-at-requires c κs = search needs
 
 returns-2 : tie.Need-returns-2
 unfolding refusalOf firstRefusal openRefusals
-returns-2 c = simp (long (c .before .before), ne-eqb _ _ (λ e. c .if2 .taken (c .before .u32-at .ensures ∙ e)))
+returns-2 c = simp (long (c .before .before), ne-eqb (signatureAt (bytes (c .before .before))) signature (λ e. omega (arith, c .before .u32-at .ensures)))
 
 byte-at-requires : tie.Need-byte-at-requires
 byte-at-requires c κs = search needs
@@ -59,7 +66,7 @@ returns-3 : tie.Need-returns-3
 unfolding refusalOf firstRefusal openRefusals
 returns-3 c =
     let behind = c .before .before in
-    simp (long (one behind), signed behind, ne-eqb _ _ (λ e. c .if3 .taken (c .before .byte-at .ensures ∙ e)))
+    simp (long (one behind), signed behind, ne-eqb (revisionAt (bytes (one behind))) revision (λ e. omega (arith, c .before .byte-at .ensures)))
 
 u16-at-requires : tie.Need-u16-at-requires
 u16-at-requires c κs = search needs
@@ -101,7 +108,7 @@ returns-5 c =
       signed (two (three behind)),
       revised (three behind),
       measured behind,
-      ne-eqb _ _ (λ e. c .if5 .taken (rw (c .before .word-sum .ensures, behind .before .before .u16-at .ensures) e)),
+      ne-eqb (sum (c .before) % wordModulus) 0 (λ e. omega (arith, summed (c .before))),
     )
 
 returns-6 : tie.Need-returns-6
@@ -113,7 +120,7 @@ returns-6 c =
       signed (two (three behind)),
       revised (three behind),
       measured behind,
-      eq-eqb _ _ (rw (c .before .word-sum .ensures, behind .before .before .u16-at .ensures) at (c .if5 .left)),
+      eq-eqb (sum (c .before) % wordModulus) 0 (omega (arith, summed (c .before))),
     )
 
 pub bytes-refusal-spec : {M : Type 1} → statement M

@@ -1,5 +1,5 @@
 -- `volume::header::fields_refusal` meets its contract: each return is the first row of the table whose test holds.
-use Prim.Native.Nat.{ℕ}
+use Prim.Native.Nat.{ℕ, _-_}
 use mathlib.Core.Path.{_≡_, sym, _∙_}
 use mathlib.Core.Bool.{false}
 use mathlib.Core.List.{List}
@@ -10,10 +10,11 @@ use denote.Ref.{now}
 use lib.ListN.{length}
 use lib.Seq.{length-take-le}
 use Rattle.common.specs.Refusals.{firstRefusal}
+use Rattle.numbers.specs.LittleEndian.{le}
 use Rattle.volume.specs.Attributes.{attributesFault}
 use Rattle.volume.specs.BlockMap.{hasZero, sizeFault}
 use Rattle.volume.specs.State.{mapOf}
-use Rattle.volume.specs.Header.{openRefusals, mapFault, refusalOf}
+use Rattle.volume.specs.Header.{headerLengthAt, openRefusals, mapFault, refusalOf}
 use Rattle.volume.specs.declared.state.State.{State}
 use Rattle.volume.proofs.header.fields_refusal.Statement.{statement}
 use Rattle.volume.proofs.header.fields_refusal.Tie as tie
@@ -46,11 +47,15 @@ nonzero : (c : tie.Else1) → hasZero (mapOf (state c)) ≡ false
 unfolding mapOf
 nonzero c = sym (c .before .has-zero .ensures) ∙ c .if1 .left
 
+abbrev closing : tie.Else1 → ℕ
+closing c = let s = bytes c in le 8 s (headerLengthAt s - 8)
+
+closed : (c : tie.After-u64-at) → c .u64-at .result ≡ closing (c .before)
+closed c = rw (c .before .before .before .before .u16-at .ensures) at (c .u64-at .ensures)
+
 mapped : (c : tie.Else2) → mapFault (bytes (one c)) (state (one c)) ≡ false
 unfolding mapFault
-mapped c =
-    let behind = one c in
-    rw (nonzero behind, eq-eqb _ _ (rw (c .before .u64-at .ensures, behind .before .before .before .u16-at .ensures) at (c .if2 .left)))
+mapped c = rw (nonzero (one c), eq-eqb (closing (one c)) 0 (omega (arith, closed (c .before))))
 
 sized : (c : tie.Else3) → let st = state (one (two c)) in sizeFault (st .entries) (mapOf st) (st .length) ≡ false
 unfolding mapOf
@@ -89,12 +94,7 @@ u64-at-requires c κs = search needs
 
 returns-2 : tie.Need-returns-2
 unfolding refusalOf firstRefusal openRefusals mapFault
-returns-2 c =
-    let behind = c .before .before in
-    simp (
-      nonzero behind,
-      ne-eqb _ _ (λ e. c .if2 .taken (rw (c .before .u64-at .ensures, behind .before .before .before .u16-at .ensures) e)),
-    )
+returns-2 c = simp (nonzero (c .before .before), ne-eqb (closing (c .before .before)) 0 (λ e. omega (arith, closed (c .before))))
 
 array-share-prefix-map-2 : tie.Need-array-share-prefix-map-2
 array-share-prefix-map-2 c = omega (arith, map-length (start (one c)))

@@ -9,22 +9,23 @@ use borrow.Author.Tests.{eqb-true, eqb-false}
 use lib.Dec.{T, eqb}
 use lib.ListN.{length, getD, set, length-set}
 use lib.Seq.{getD-set-other}
+use Rattle.common.specs.Answers.{refused, success}
+use Rattle.common.specs.Lists.{edit}
 use Rattle.common.specs.Refusals.{firstRefusal, any}
 use Rattle.numbers.specs.LittleEndian.{le}
-use Rattle.block_service.specs.Access.{countMoved, writtenByte}
+use Rattle.block_service.specs.Access.{countMoved, writtenByte, writeChange, changedByte}
 use Rattle.volume.specs.Attributes.{attributesFault, baseFault}
 use Rattle.volume.specs.BlockMap.{blocks, bytes, hasZero, allZero, sizeFault}
 use Rattle.block_service.specs.Blocks.{inBlock, holds, place, placeFrom, startOf, lengthOf, leftOf, blockAt}
-use Rattle.block_service.specs.Erase.{goodList, names, erasedByte}
-use Rattle.volume.specs.Header.{openVolume, answered, stateBeside, stateAt, wordsAt, wordSum, openRefusals, headerLengthFault, mapFault}
-use Rattle.block_service.specs.Service.{refusals, moveAnswer, writeChange, eraseChange, effect, unless, decide, withAttributes, edit, changedByte, perform, bufferOf, refused, success, Call, setAttributes, read, eraseBlocks, step}
+use Rattle.block_service.specs.Erase.{endOfList, goodList, names, erasedByte, eraseChange}
+use Rattle.volume.specs.Header.{opened, openVolume, stateAt, wordsAt, wordSum, openRefusals, headerLengthFault, mapFault}
+use Rattle.block_service.specs.Service.{refusals, lentRefusals, moveAnswer, effect, decide, withAttributes, perform, bufferOf, Call, setAttributes, read, eraseBlocks, step}
 use Rattle.block_service.specs.Settings.{changesFixed, raises, clears, lacksCapability, settingRefusals}
 use Rattle.volume.specs.State.{mapOf, stateOf, stateWith, unlawful}
 use Rattle.volume.specs.declared.state.State.{State}
 use Rattle.isolation.specs.Runs.{run, isSuccess, isMoved, namesBlock, erased, Alike, NoEarlyRead, Isolated}
-use Rattle.isolation.specs.SampleA.{headerA, sampleA}
-use Rattle.volume.specs.declared.header.Opening.the-variants as Opening
+use Rattle.table.specs.SampleA.{headerA, sampleA}
 use Rattle.isolation.proofs.Isolation.{demand-3}
 
 -- the hypothesis on reads, call by call: a set loses the blocks that a call erased, and a read in what is left is refused
 unfoldable ReadsAllowed : (ℕ → Type 0) → State → List ℕ → List Call → Type 0
@@ -58,7 +59,7 @@ allowed D st v (c ∷ cs) k (x ∷ before) after b o buffer e d m =
 
 -- everything that the two runs compute with
 computed : Unit {0}
-unfolding headerA sampleA openVolume answered stateBeside stateAt stateOf stateWith wordsAt wordSum openRefusals headerLengthFault mapFault firstRefusal any le attributesFault baseFault blocks bytes hasZero allZero sizeFault mapOf unlawful place placeFrom startOf lengthOf leftOf holds inBlock blockAt countMoved writtenByte goodList names erasedByte changesFixed raises clears lacksCapability settingRefusals refusals moveAnswer writeChange eraseChange effect unless decide withAttributes edit changedByte perform bufferOf step isSuccess isMoved namesBlock erased run
+unfolding headerA sampleA openVolume stateAt stateOf stateWith wordsAt wordSum openRefusals headerLengthFault mapFault firstRefusal any le attributesFault baseFault blocks bytes hasZero allZero sizeFault mapOf unlawful place placeFrom startOf lengthOf leftOf holds inBlock blockAt countMoved writtenByte goodList names erasedByte changesFixed raises clears lacksCapability settingRefusals refusals lentRefusals moveAnswer writeChange eraseChange effect decide withAttributes edit changedByte perform bufferOf step isSuccess isMoved namesBlock erased run
 computed = tt
 
 -- sample A with byte 1024, the first of block 2, changed
@@ -73,11 +74,11 @@ stateA = openVolume sampleA 0 .state
 unfoldable pub Two : ℕ → Type 0
 Two b = b ≡ 2
 
-pub opens : openVolume sampleA 0 ≡ record { answer = Opening.Success; state = stateA }
+pub opens : openVolume sampleA 0 ≡ opened stateA
 unfolding computed stateA
 opens = refl
 
-pub opens-changed : openVolume changedA 0 ≡ record { answer = Opening.Success; state = stateA }
+pub opens-changed : openVolume changedA 0 ≡ opened stateA
 unfolding computed stateA changedA
 opens-changed = refl
 
@@ -106,7 +107,7 @@ alike i n = go (eqb i 1024) refl
 -- ---- block 2 is erased, and then read
 
 unfoldable pub eraseTwo : Call
-eraseTwo = eraseBlocks (2 ∷ 1 ∷ 0xFFFFFFFFFFFFFFFF ∷ [])
+eraseTwo = eraseBlocks (2 ∷ 1 ∷ endOfList ∷ [])
 
 unfoldable pub readTwo : Call
 readTwo = read 2 0 (7 ∷ 7 ∷ 7 ∷ 7 ∷ [])
@@ -139,7 +140,7 @@ erased-then-read = demand-3 Two 0 stateA sampleA changedA (eraseTwo ∷ readTwo 
 -- ---- the erase is refused (its last pair passes the number of blocks), reads are disabled, and the read of block 2 is refused
 
 unfoldable pub eraseTooFar : Call
-eraseTooFar = eraseBlocks (2 ∷ 1 ∷ 3 ∷ 2 ∷ 0xFFFFFFFFFFFFFFFF ∷ [])
+eraseTooFar = eraseBlocks (2 ∷ 1 ∷ 3 ∷ 2 ∷ endOfList ∷ [])
 
 unfoldable pub disableReads : Call
 disableReads = setAttributes 0x0E3B
