@@ -4,7 +4,7 @@ use native.Mathlib.Omega.{arith}
 use borrow.Author.Needs.{needs}
 use denote.Ref.{now}
 use lib.ListN.{length}
-use Rattle.sections.proofs.AppendLaws.{leaf-stored}
+use Rattle.sections.proofs.append.Stores.{leaf-stored}
 use Rattle.sections.proofs.append.store_leaf.Statement.{statement}
 use Rattle.sections.proofs.append.store_leaf.Tie as tie
 
@@ -58,7 +58,7 @@ returns c =
     (c .before .before .before .before .before .before .before .before .before .before .before .before .before .before .store .last .0)
     (c .before .before .before .before .before .before .before .before .before .before .store2 .last .0)
     (c .before .before .before .before .before .before .store3 .last .0) (now (a .body))
-    (c .before .before .copy .last .0) (a .used) start (a .kind)
+    (c .before .before .copy .last .0) (a .used) start (a .section-type)
     (start + (4 + length (now (a .body))) - (start + 4))
     (c .before .before .before .before .before .before .before .before .before .before .before .before .before .before .before .before .aligned .ensures)
     (search needs) (omega arith)
