@@ -57,7 +57,8 @@ pub fn append(buffer: &mut [u8], used: usize, section_type: u8, body: &[u8]) -> 
     Appended::Used(end)
 }
 
-// Stores padding, header and body from byte `used` on.
+// Stores padding, header and body from byte `used` on. The body goes by the kit's plain loop over two slices, which an archive has
+// as a loop of 32-byte moves behind a test of overlap; `numbers::store`, at any place, tests a bound at every byte.
 fn store_leaf(buffer: &mut [u8], used: usize, section_type: u8, body: &[u8])
     requires { ⌜ (usedAfter used (length (now body)) ≤ length (now buffer)) × (usedAfter used (length (now body)) < 2 ^ 63) ⌝ }
     ensures { λ _. ⌜ now (buffer .exit) ≡ sets (now (buffer .entry)) used (added used «section_type» (now (body .entry))) ⌝ }
@@ -69,17 +70,5 @@ fn store_leaf(buffer: &mut [u8], used: usize, section_type: u8, body: &[u8])
     numbers::store(buffer, start + TYPE, 1, section_type as u64);
     let from = start + COMMON_HEADER;
     let end = start + size;
-    copy(&mut buffer[from..end], body);
-}
-
-// Copies the source into the destination, as far as both go. A plain loop over two slices, which compiles to
-// memcpy; `numbers::store_bytes`, at any place, tests a bound at every byte.
-fn copy(dst: &mut [u8], src: &[u8])
-    ensures { λ _. ⌜ now (dst .exit) ≡ sets (now (dst .entry)) 0 (now (src .entry)) ⌝ }
-{
-    let mut i = 0;
-    while i < dst.len() && i < src.len() {
-        dst[i] = src[i];
-        i += 1;
-    }
+    bytes::copy(body, &mut buffer[from..end]);
 }

@@ -5,22 +5,20 @@ use mathlib.Core.Path.{_≡_, refl, sym, ap, _∙_}
 use mathlib.Core.List.{List, [], _∷_, _++_, append-assoc, append-nil}
 use native.Mathlib.Omega.{arith}
 use lib.ListN.{length, take, drop, replicate, length-append, length-drop, length-replicate, drop-of-length-le}
-use lib.Seq.{sets, length-sets, sets-eq, drop-drop, length-take-le}
+use lib.Seq.{sets, length-sets, sets-eq, drop-drop, length-take-le, take-length}
 use Rattle.common.proofs.Lists.{sets-append}
 use Rattle.numbers.specs.LittleEndian.{leBytes}
 use Rattle.numbers.proofs.LittleEndian.{length-leBytes}
 use Rattle.sections.specs.Walk.{aligned}
 use Rattle.sections.specs.Append.{leafSize, usedAfter, leaf, added}
 
--- a run of stores into a part that is as long as it is the same run into the whole
-pub sets-part : (b l : List ℕ) (at n : ℕ) → n ≡ length b → at + n ≤ length l
-    → take at l ++ (sets (take n (drop at l)) 0 b ++ drop n (drop at l)) ≡ sets l at b
+-- a copy into a part that is as long as it is a run of stores into the whole
+sets-part : (b l : List ℕ) (at n : ℕ) → n ≡ length b → at + n ≤ length l
+    → take at l ++ ((take (length b) b ++ drop (length b) (take n (drop at l))) ++ drop n (drop at l)) ≡ sets l at b
 sets-part b l at n e h =
-    let p : List ℕ = take n (drop at l) in
-    let q : length p ≡ length b = length-take-le n (drop at l) (simp length-drop (omega arith)) ∙ e in
-    let z : drop (0 + length b) p ≡ [] = drop-of-length-le p {i = 0 + length b} (omega arith) in
-    let stored : sets p 0 b ≡ b = sets-eq b p 0 (omega arith) ∙ ap (λ (r : List ℕ). b ++ r) z ∙ append-nil b in
-    rw (stored, drop-drop, e) (sym (sets-eq b l at (omega arith) ∙ append-assoc (take at l) b (drop (at + length b) l)))
+    let q : length (take n (drop at l)) ≡ n = length-take-le n (drop at l) (simp length-drop (omega arith)) in
+    let z : drop (length b) (take n (drop at l)) ≡ [] = drop-of-length-le (take n (drop at l)) {i = length b} (omega arith) in
+    rw (take-length, z, append-nil, drop-drop, e) (sym (sets-eq b l at (omega arith) ∙ append-assoc (take at l) b (drop (at + length b) l)))
 
 zero-bytes : (n : ℕ) → leBytes n 0 ≡ replicate n 0
 unfolding leBytes
@@ -36,12 +34,13 @@ then-sets : (a b l m : List ℕ) (i j : ℕ) → m ≡ sets l i a → j ≡ i + 
 then-sets a b l m i j e q = rw (e, q) (sym (sets-append a b l i))
 
 -- padding, size, type and body stored one after another are the leaf stored with its padding
-pub leaf-stored : (l l₁ l₂ l₃ body w : List ℕ) (used start t k : ℕ) → start ≡ aligned used → t < 256 → k ≡ length body
-    → start + 4 + k ≤ length l → l₁ ≡ sets l used (leBytes (start - used) 0) → l₂ ≡ sets l₁ start (leBytes 3 (leafSize (length body)))
-    → l₃ ≡ sets l₂ (start + 3) (leBytes 1 t) → w ≡ sets (take k (drop (start + 4) l₃)) 0 body
+pub leaf-stored : (l l₁ l₂ l₃ body w : List ℕ) (used start t k : ℕ)
+    → l₁ ≡ sets l used (leBytes (start - used) 0) → l₂ ≡ sets l₁ start (leBytes 3 (leafSize (length body)))
+    → l₃ ≡ sets l₂ (start + 3) (leBytes 1 t) → w ≡ take (length body) body ++ drop (length body) (take k (drop (start + 4) l₃))
+    → start ≡ aligned used → t < 256 → k ≡ length body → start + 4 + k ≤ length l
     → take (start + 4) l₃ ++ (w ++ drop k (drop (start + 4) l₃)) ≡ sets l used (added used t body)
 unfolding added leaf
-leaf-stored l l₁ l₂ l₃ body w used start t k sa small n fits e₁ e₂ e₃ ew =
+leaf-stored l l₁ l₂ l₃ body w used start t k e₁ e₂ e₃ ew sa small n fits =
     let z : List ℕ = leBytes (start - used) 0 in
     let h : List ℕ = leBytes 3 (leafSize (length body)) in
     let b : List ℕ = leBytes 1 t in
