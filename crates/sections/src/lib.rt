@@ -5,6 +5,6 @@
 // document 01's refusal numbers.
 pub mod append;
 mod header;
-pub mod kinds;
 pub mod search;
+pub mod types;
 mod walk;

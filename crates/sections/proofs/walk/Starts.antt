@@ -1,48 +1,19 @@
--- Laws of the walk: the walk at a start without the number that bounds the recursion, which nothing but the walk obeys; and the
--- code's loop over one stream, turn by turn.
-use Prim.Native.Nat.{ℕ, zero, suc, _+_, _-_, _≤_, _<_}
-use mathlib.Core.Path.{_≡_, refl, sym, ap, _∙_, fun-ext}
+-- Laws of the walk at each start, without the number that bounds the recursion: at the end of the stream it is done; at a start it is
+-- the fault there, or the section, then its children, then its padding, then the walk at the next start. Nothing but the walk obeys them.
+use Prim.Native.Nat.{ℕ, zero, suc, _+_, _≤_, _<_}
+use mathlib.Core.Path.{_≡_, refl, sym, _∙_, fun-ext}
 use mathlib.Core.Bool.{Bool, true, false, cond}
 use mathlib.Core.List.{List}
-use native.Mathlib.Nat.{add-zero, sub-zero}
 use native.Mathlib.Omega.{arith}
-use borrow.Author.Tests.{lt-ltb, le-ltb, eq-eqb, ne-eqb, ltb-true, ltb-false}
+use borrow.Author.Tests.{lt-ltb, le-ltb, ne-eqb, ltb-true, ltb-false}
 use lib.Dec.{ltb}
-use lib.ListN.{length, getD}
+use lib.ListN.{length}
+use Rattle.sections.specs.Types.{commonHeader}
 use Rattle.sections.specs.Header.{headAt}
-use Rattle.sections.specs.Walk.{Trace, done, fault, section, andThen, aligned, zeros, part, afterPadding, meet, siblings, walk}
-use Rattle.sections.specs.Seek.{visited, halted, run}
+use Rattle.sections.specs.Walk.{Trace, done, fault, section, andThen, aligned, part, afterPadding, meet, siblings, walk}
 use Rattle.sections.specs.declared.header.Head.{Head}
 use Rattle.sections.specs.declared.header.Head.the-variants.{Fault, Closed, Open}
-use Rattle.sections.specs.declared.walk.Seek.{Seek}
-use Rattle.sections.specs.declared.walk.Seek.the-variants.{Refused}
-use Rattle.sections.proofs.HeaderLaws.{closed-within, open-within}
-use Rattle.sections.proofs.SeekLaws.{run-refused, run-then}
-
--- the test of n bytes from `at` on, with i of them passed: its start, its end, and a byte that is 0 or not
-pub zeros-whole : (s : List ℕ) (at n : ℕ) → zeros s (at + 0) (n - 0) ≡ zeros s at n
-zeros-whole s at n = rw (add-zero, sub-zero)
-
-pub zeros-end : (s : List ℕ) (at n i : ℕ) → n ≤ i → true ≡ zeros s (at + i) (n - i)
-unfolding zeros
-zeros-end s at n i h = let e : n - i ≡ 0 = omega arith in rw e
-
-pub zeros-more : (s : List ℕ) (at n i : ℕ) → i < n → getD s (at + i) 0 ≡ 0 → zeros s (at + (i + 1)) (n - (i + 1)) ≡ zeros s (at + i) (n - i)
-unfolding zeros
-zeros-more s at n i h b =
-    let e : n - i ≡ suc (n - (i + 1)) = omega arith in
-    let q : at + (i + 1) ≡ at + i + 1 = omega arith in
-    rw (e, eq-eqb (getD s (at + i) 0) 0 b, q)
-
-pub zeros-stop : (s : List ℕ) (at n i : ℕ) → i < n → (getD s (at + i) 0 ≡ 0 → ⊥) → false ≡ zeros s (at + i) (n - i)
-unfolding zeros
-zeros-stop s at n i h b = let e : n - i ≡ suc (n - (i + 1)) = omega arith in rw (e, ne-eqb (getD s (at + i) 0) 0 b)
-
--- the test looks at those bytes alone
-pub zeros-same : (s s′ : List ℕ) (at n : ℕ) → ((i : ℕ) → at ≤ i → i < at + n → getD s i 0 ≡ getD s′ i 0) → zeros s at n ≡ zeros s′ at n
-unfolding zeros
-zeros-same s s′ at zero h = refl
-zeros-same s s′ at (suc n) h = rw (h at (omega arith) (omega arith), zeros-same s s′ (at + 1) n (λ i a b. h i (omega arith) (omega arith)))
+use Rattle.sections.proofs.header.Extent.{closed-within, open-within}
 
 -- the walk one level down
 abbrev pub deeper : ℕ → List ℕ → ℕ → Trace
@@ -139,15 +110,6 @@ pub walk-open : (n : ℕ) (s : List ℕ) (base at : ℕ) {t f e : ℕ} → at < 
 unfolding meet
 walk-open n s base at h e = walk-here (suc n) s base at h ∙ rw (e, ne-eqb (suc n) 0 (λ z. omega arith))
 
--- after a section that ends at byte e: the walk at the next start, or 207
-pub padding-zero : (s : List ℕ) (e : ℕ) (rest : ℕ → Trace) → zeros s e (aligned e - e) ≡ true → afterPadding s e rest ≡ rest (aligned e)
-unfolding afterPadding
-padding-zero s e rest z = rw z
-
-pub padding-207 : (s : List ℕ) (e : ℕ) (rest : ℕ → Trace) → zeros s e (aligned e - e) ≡ false → afterPadding s e rest ≡ fault 207
-unfolding afterPadding
-padding-207 s e rest z = rw z
-
 -- the same as one equation, which nothing but the walk obeys: `below` is the walk of a holder's contents
 abbrev pub below : (W : ℕ → List ℕ → ℕ → ℕ → Trace) → ℕ → List ℕ → ℕ → Trace
 below W zero = λ l b. done
@@ -189,63 +151,3 @@ module _ (W : ℕ → List ℕ → ℕ → ℕ → Trace) (law : Law W) where
   walk-only zero s base at = only-here zero refl (length s) s base at (omega arith)
   walk-only (suc n) s base at =
       only-here (suc n) (fun-ext (λ l. fun-ext (λ b. walk-only n l b 0 ∙ sym (walk-from-start n l b)))) (length s) s base at (omega arith)
-
--- the loop over one stream, at a start: the walk from here on gives the whole result x
-pub record Going (n : ℕ) (s : List ℕ) (base w : ℕ) (x a : Seek) (at : ℕ) : Type 0 where
-  pub same : x ≡ run w a (walkFrom n s base at)
-
-pub going-start : (n : ℕ) (s : List ℕ) (base w : ℕ) (a : Seek) → Going n s base w (run w a (walk n s base)) a 0
-going-start n s base w a = record { same = ap (run w a) (walk-from-start n s base) }
-
-module _ {n : ℕ} {s : List ℕ} {base w : ℕ} {x a : Seek} {at : ℕ} (g : Going n s base w x a at) where
-  pub going-end : length s ≤ at → a ≡ x
-  unfolding run
-  going-end h = sym (g .same ∙ ap (run w a) (walk-end n s base at h))
-
-  -- one turn, by what stands at the start
-  module _ (here : at < length s) where
-    pub turn-fault : {m : ℕ} → headAt s at ≡ Fault m → halted m a ≡ x
-    unfolding run
-    turn-fault h = sym (g .same ∙ ap (run w a) (walk-fault n s base at here h))
-
-    turn-closed-any : {t e : ℕ} → headAt s at ≡ Closed t e
-        → x ≡ run w (visited w a t (base + (at + 4)) (base + e)) (afterPadding s e (walkFrom n s base))
-    unfolding run
-    turn-closed-any h = g .same ∙ ap (run w a) (walk-closed n s base at here h)
-
-    pub turn-closed : {t e : ℕ} → headAt s at ≡ Closed t e → zeros s e (aligned e - e) ≡ true
-        → Going n s base w x (visited w a t (base + (at + 4)) (base + e)) (aligned e)
-    turn-closed {t} {e} h z = record { same = rw (padding-zero s e (walkFrom n s base) z) at (turn-closed-any h) }
-
-    pub turn-closed-207 : {t e : ℕ} → headAt s at ≡ Closed t e → zeros s e (aligned e - e) ≡ false
-        → halted 207 (visited w a t (base + (at + 4)) (base + e)) ≡ x
-    unfolding run
-    turn-closed-207 {t} {e} h z = sym (rw (padding-207 s e (walkFrom n s base) z) at (turn-closed-any h))
-
-    pub turn-205 : {t f e : ℕ} → headAt s at ≡ Open t f e → n ≡ 0 → halted 205 a ≡ x
-    unfolding run
-    turn-205 h z = sym (rw (z, walk-205 s base at here h) at (g .same))
-
-    -- the children of a holder, run from the state after the holder itself
-    module _ {t f e : ℕ} {b : Seek} (h : headAt s at ≡ Open t f e) (deep : n ≡ 0 → ⊥)
-        (children : b ≡ run w (visited w a t (base + (at + 4)) (base + e)) (walk (n - 1) (part f e s) (base + f))) where
-      turn-open : x ≡ run w b (afterPadding s e (walkFrom n s base))
-      unfolding run
-      turn-open =
-          let k : suc (n - 1) ≡ n = omega arith in
-          let v = visited w a t (base + (at + 4)) (base + e) in
-          let inner = walk (n - 1) (part f e s) (base + f) in
-          g .same
-          ∙ ap (run w a) (rw k at (walk-open (n - 1) s base at here h))
-          ∙ run-then w v inner (afterPadding s e (walkFrom n s base))
-          ∙ ap (λ (y : Seek). run w y (afterPadding s e (walkFrom n s base))) (sym children)
-
-      pub turn-children : {m : ℕ} → b ≡ Refused m → Refused m ≡ x
-      turn-children r = sym (rw (r, run-refused) at turn-open)
-
-      pub turn-open-next : zeros s e (aligned e - e) ≡ true → Going n s base w x b (aligned e)
-      turn-open-next z = record { same = rw (padding-zero s e (walkFrom n s base) z) at turn-open }
-
-      pub turn-open-207 : zeros s e (aligned e - e) ≡ false → halted 207 b ≡ x
-      unfolding run
-      turn-open-207 z = sym (rw (padding-207 s e (walkFrom n s base) z) at turn-open)

@@ -11,50 +11,36 @@ use lib.ListN.{length, getD, take, drop, replicate, length-append, length-drop, 
 use lib.Seq.{take-append-le, drop-append-le, getD-append-add, drop-append-add, take-length}
 use Rattle.numbers.specs.LittleEndian.{le, leBytes}
 use Rattle.numbers.proofs.LittleEndian.{le-skip, le-leBytes}
-use Rattle.sections.specs.Kinds.{kindOf}
+use Rattle.sections.specs.Types.{typeInfo}
 use Rattle.sections.specs.Header.{sizeAt, typeAt, isHolder, headAt}
 use Rattle.sections.specs.Walk.{Trace, done, fault, section, andThen, aligned, zeros, part, afterPadding, walk}
 use Rattle.sections.specs.Search.{firstFault}
-use Rattle.sections.specs.Append.{leafSize, usedAfter, leaf, added}
+use Rattle.sections.specs.Append.{leafSize, sizeLimit, usedAfter, leaf, added}
 use Rattle.sections.specs.declared.header.Head.{Head}
 use Rattle.sections.specs.declared.header.Head.the-variants.{Fault, Closed, Open}
-use Rattle.sections.proofs.AppendLaws.{length-added}
-use Rattle.sections.proofs.HeaderLaws.{Whole, is-closed, is-open, closed-within, open-within, head-same, head-leaf}
-use Rattle.sections.proofs.WalkLaws.{walkFrom, walk-from-start, walk-end, walk-fault, walk-closed, walk-205, walk-open, padding-zero, padding-207, zeros-same}
+use Rattle.sections.proofs.append.Stores.{length-added}
+use Rattle.sections.proofs.header.Decided.{head-same}
+use Rattle.sections.proofs.header.Extent.{Whole, is-closed, is-open, closed-within, open-within}
+use Rattle.sections.proofs.header.Tests.{head-leaf}
+use Rattle.sections.proofs.walk.Padding.{zeros-same, zeros-past, padding-zero, padding-none}
+use Rattle.sections.proofs.walk.Starts.{walkFrom, walk-from-start, walk-end, walk-fault, walk-closed, walk-205, walk-open}
 
-then-assoc : (t u v : Trace) → andThen (andThen t u) v ≡ andThen t (andThen u v)
+then-assoc : (x u v : Trace) → andThen (andThen x u) v ≡ andThen x (andThen u v)
 unfolding andThen
 then-assoc done u v = refl
 then-assoc (fault n) u v = refl
-then-assoc (section k f e t) u v = ap (section k f e) (then-assoc t u v)
+then-assoc (section t f e rest) u v = ap (section t f e) (then-assoc rest u v)
 
-none-then : (t u : Trace) → firstFault (andThen t u) ≡ none → firstFault u ≡ none
+none-then : (x u : Trace) → firstFault (andThen x u) ≡ none → firstFault u ≡ none
 unfolding andThen firstFault
 none-then done u p = p
 none-then (fault n) u p = let z : _≡_ {A = ℕ} 0 1 = cc in absurd (omega arith)
-none-then (section k f e t) u p = none-then t u p
-
-zeros-past : (s : List ℕ) (at n : ℕ) → length s ≤ at → zeros s at n ≡ true
-unfolding zeros
-zeros-past s at zero h = refl
-zeros-past s at (suc n) h = rw (List·getD-eq-default s 0 h) (zeros-past s (at + 1) n (omega arith))
-
--- padding that raises no fault
-padding-none : (s : List ℕ) (e : ℕ) (rest : ℕ → Trace) → firstFault (afterPadding s e rest) ≡ none
-    → (zeros s e (aligned e - e) ≡ true) × (firstFault (rest (aligned e)) ≡ none)
-unfolding firstFault
-padding-none s e rest p = go (zeros s e (aligned e - e)) refl
-  where
-    go : (b : Bool) → zeros s e (aligned e - e) ≡ b → (zeros s e (aligned e - e) ≡ true) × (firstFault (rest (aligned e)) ≡ none)
-    go true z = (z, rw (padding-zero s e rest z) at p)
-    go false z =
-        let q : _≡_ {A = Option ℕ} (some 207) none = rw (padding-207 s e rest z) at p in
-        let y : _≡_ {A = ℕ} 0 1 = cc in absurd (omega arith)
+none-then (section t f e rest) u p = none-then rest u p
 
 -- a leaf after a stream s: the new stream, and the start and the end of the leaf in it
-module _ (s : List ℕ) (kind : ℕ) (body : List ℕ) where
+module _ (s : List ℕ) (sectionType : ℕ) (body : List ℕ) where
   abbrev pub after : List ℕ
-  after = s ++ added (length s) kind body
+  after = s ++ added (length s) sectionType body
 
   abbrev pub start : ℕ
   start = aligned (length s)
@@ -72,14 +58,14 @@ module _ (s : List ℕ) (kind : ℕ) (body : List ℕ) where
       let b : length (replicate {A = ℕ} (start - length s) 0) ≡ start - length s = length-replicate (start - length s) 0 in
       omega arith
 
-  after-padded : after ≡ padded ++ leaf kind body
+  after-padded : after ≡ padded ++ leaf sectionType body
   unfolding added
-  after-padded = sym (append-assoc s (replicate (start - length s) 0) (leaf kind body))
+  after-padded = sym (append-assoc s (replicate (start - length s) 0) (leaf sectionType body))
 
   pub after-length : length after ≡ finish
   after-length =
-      let a = length-append s (added (length s) kind body) in
-      let b = length-added (length s) kind body in
+      let a = length-append s (added (length s) sectionType body) in
+      let b = length-added (length s) sectionType body in
       omega arith
 
   -- up to the leaf nothing but padding is new
@@ -87,7 +73,7 @@ module _ (s : List ℕ) (kind : ℕ) (body : List ℕ) where
   same-before i h = go (ltb i (length s)) refl
     where
       go : (b : Bool) → ltb i (length s) ≡ b → getD s i 0 ≡ getD after i 0
-      go true e = sym (List·getD-append s (added (length s) kind body) 0 i (ltb-true i (length s) e))
+      go true e = sym (List·getD-append s (added (length s) sectionType body) 0 i (ltb-true i (length s) e))
       go false e =
           let past = ltb-false i (length s) e in
           let c = padded-length in
@@ -97,32 +83,32 @@ module _ (s : List ℕ) (kind : ℕ) (body : List ℕ) where
           ∙ getD-append-add s (replicate (start - length s) 0) (i - length s) 0
           ∙ getD-replicate (start - length s) (i - length s) 0 0 (omega arith) in
           List·getD-eq-default s 0 {n = i} past ∙ sym zero-byte
-          ∙ sym (ap (λ (l : List ℕ). getD l i 0) after-padded ∙ List·getD-append padded (leaf kind body) 0 i (omega arith))
+          ∙ sym (ap (λ (l : List ℕ). getD l i 0) after-padded ∙ List·getD-append padded (leaf sectionType body) 0 i (omega arith))
 
   same-part : (f e : ℕ) → f ≤ e → e ≤ length s → part f e after ≡ part f e s
   same-part f e a b =
-      ap (take (e - f)) (drop-append-le f s (added (length s) kind body) (omega arith))
-      ∙ take-append-le (e - f) (drop f s) (added (length s) kind body) (simp lib.ListN.length-drop (omega arith))
+      ap (take (e - f)) (drop-append-le f s (added (length s) sectionType body) (omega arith))
+      ∙ take-append-le (e - f) (drop f s) (added (length s) sectionType body) (simp length-drop (omega arith))
 
   -- the bytes of the leaf's header
-  leaf-size : leafSize (length body) < 16777216 → sizeAt after start ≡ leafSize (length body)
+  leaf-size : leafSize (length body) ≤ sizeLimit → sizeAt after start ≡ leafSize (length body)
   unfolding leaf
   leaf-size h =
       let c = padded-length in
       let at : start ≡ length padded + 0 = omega arith in
       ap (λ (l : List ℕ). le 3 l start) after-padded
-      ∙ ap (le 3 (padded ++ leaf kind body)) at
-      ∙ le-skip 3 padded (leaf kind body) 0
-      ∙ le-leBytes 3 (leafSize (length body)) (kind ∷ body) h
+      ∙ ap (le 3 (padded ++ leaf sectionType body)) at
+      ∙ le-skip 3 padded (leaf sectionType body) 0
+      ∙ le-leBytes 3 (leafSize (length body)) (sectionType ∷ body) (omega arith)
 
-  leaf-type : typeAt after start ≡ kind
+  leaf-type : typeAt after start ≡ sectionType
   unfolding leaf leBytes
   leaf-type =
       let c = padded-length in
       let at : start + 3 ≡ length padded + 3 = omega arith in
       ap (λ (l : List ℕ). getD l (start + 3) 0) after-padded
-      ∙ ap (λ (i : ℕ). getD (padded ++ leaf kind body) i 0) at
-      ∙ getD-append-add padded (leaf kind body) 3 0
+      ∙ ap (λ (i : ℕ). getD (padded ++ leaf sectionType body) i 0) at
+      ∙ getD-append-add padded (leaf sectionType body) 3 0
 
   -- the part that the leaf shows is its body
   pub leaf-body : part (start + 4) finish after ≡ body
@@ -132,8 +118,8 @@ module _ (s : List ℕ) (kind : ℕ) (body : List ℕ) where
       let at : start + 4 ≡ length padded + 4 = omega arith in
       let n : finish - (start + 4) ≡ length body = omega arith in
       ap₂ (λ (k : ℕ) (l : List ℕ). take k (drop (start + 4) l)) n after-padded
-      ∙ ap (λ (i : ℕ). take (length body) (drop i (padded ++ leaf kind body))) at
-      ∙ ap (take (length body)) (drop-append-add padded (leaf kind body) 4)
+      ∙ ap (λ (i : ℕ). take (length body) (drop i (padded ++ leaf sectionType body))) at
+      ∙ ap (take (length body)) (drop-append-add padded (leaf sectionType body) 4)
       ∙ take-length body
 
   -- a section that lies whole in the old stream is the same in the new one
@@ -147,21 +133,22 @@ module _ (s : List ℕ) (kind : ℕ) (body : List ℕ) where
   kept-padding : (e : ℕ) → e ≤ length s → zeros s e (aligned e - e) ≡ true → zeros after e (aligned e - e) ≡ true
   kept-padding e h z = sym (zeros-same s after e (aligned e - e) (λ i p q. same-before i (omega arith))) ∙ z
 
-  module _ (leaves : isHolder (kindOf kind .class) ≡ false) (least : kindOf kind .least ≤ leafSize (length body)) (small : leafSize (length body) < 16777216) where
-    leaf-head : headAt after start ≡ Closed kind finish
+  module _ (leaves : isHolder (typeInfo sectionType .class) ≡ false) (least : typeInfo sectionType .least ≤ leafSize (length body))
+      (small : leafSize (length body) ≤ sizeLimit) where
+    leaf-head : headAt after start ≡ Closed sectionType finish
     leaf-head =
         let n = after-length in
-        sym (head-leaf after start {k = kindOf kind} (sym leaf-type) (sym (leaf-size small)) refl leaves (omega arith) least (omega arith))
+        sym (head-leaf after start {info = typeInfo sectionType} (sym leaf-type) (sym (leaf-size small)) refl leaves (omega arith) least (omega arith))
 
     -- the new section on the walk
     abbrev new : ℕ → Trace
-    new base = section kind (base + (start + 4)) (base + finish) done
+    new base = section sectionType (base + (start + 4)) (base + finish) done
 
     walk-leaf : (n base : ℕ) → walkFrom n after base start ≡ new base
     walk-leaf n base =
         let l = after-length in
         walk-closed n after base start (omega arith) leaf-head
-        ∙ ap (section kind (base + (start + 4)) (base + finish))
+        ∙ ap (section sectionType (base + (start + 4)) (base + finish))
         (padding-zero after finish (walkFrom n after base) (zeros-past after finish (aligned finish - finish) (omega arith))
         ∙ walk-end n after base (aligned finish) (omega arith))
 
@@ -226,7 +213,7 @@ module _ (s : List ℕ) (kind : ℕ) (body : List ℕ) where
 
     -- the walk of the new stream is the old one and then the new section
     pub appended-walk : (n base : ℕ) → firstFault (walk n s base) ≡ none
-        → walk n after base ≡ andThen (walk n s base) (section kind (base + (start + 4)) (base + finish) done)
+        → walk n after base ≡ andThen (walk n s base) (section sectionType (base + (start + 4)) (base + finish) done)
     appended-walk n base well =
         walk-from-start n after base
         ∙ longer (length s) n base 0 (omega arith) refl (omega arith) (rw (walk-from-start n s base) at well)

@@ -11,18 +11,19 @@ use borrow.Author.Tests.{ltb-true, ltb-false}
 use lib.Dec.{ltb}
 use lib.ListN.{length, getD, drop, length-take, length-drop, List·getD-eq-default}
 use lib.Seq.{getD-take, getD-drop}
-use Rattle.sections.specs.Kinds.{kindOf}
+use Rattle.sections.specs.Types.{typeInfo}
 use Rattle.sections.specs.Header.{typeAt, sizeAt, isHolder, contentsAt, packed, headAt}
 use Rattle.sections.specs.Walk.{Trace, done, aligned, zeros, part, afterPadding, meet, siblings, walk, streamWalk}
 use Rattle.sections.specs.Search.{searchOf}
 use Rattle.sections.specs.declared.header.Head.{Head}
 use Rattle.sections.specs.declared.header.Head.the-variants.{Fault, Closed, Open}
-use Rattle.sections.proofs.HeaderLaws.{is-closed, is-open, closed-within, open-within, contents-within, head-same}
-use Rattle.sections.proofs.WalkLaws.{zeros-same}
+use Rattle.sections.proofs.header.Decided.{head-same}
+use Rattle.sections.proofs.header.Extent.{is-closed, is-open, closed-within, open-within, contents-within}
+use Rattle.sections.proofs.walk.Padding.{zeros-same}
 
--- byte i of a stream is a byte of the kind P of some section at the starts that follow one another from byte `at` on, whatever faults their
--- padding or children have, with n levels left below: of the section
--- that stands at `at`, of one at a later start, or of one inside a holder
+-- byte i of a stream is one that P names of some section at the starts that follow one another from byte `at` on, whatever faults
+-- their padding or children have, with n levels left below: of the section that stands at `at`, of one at a later start, or of one
+-- inside a holder
 pub data OnWalk (P : List ℕ → ℕ → ℕ → Type 0) : (n : ℕ) → List ℕ → (at i : ℕ) → Type 0 where
   here : {n : ℕ} {s : List ℕ} {at i : ℕ} → P s at i → OnWalk P n s at i
   after-closed : {n : ℕ} {s : List ℕ} {at i t e : ℕ} → headAt s at ≡ Closed t e → OnWalk P n s (aligned e) i → OnWalk P n s at i
@@ -31,18 +32,18 @@ pub data OnWalk (P : List ℕ → ℕ → ℕ → Type 0) : (n : ℕ) → List �
 
 -- the body of a section that is not opened, after its type's own header: a leaf's body, or what a packed holder holds
 pub record Body (s : List ℕ) (at i : ℕ) : Type 0 where
-  pub kind : ℕ
+  pub sectionType : ℕ
   pub end : ℕ
-  pub closed : headAt s at ≡ Closed kind end
-  pub low : at + kindOf kind .least ≤ i
+  pub closed : headAt s at ≡ Closed sectionType end
+  pub low : at + typeInfo sectionType .least ≤ i
   pub high : i < end
 
 -- the contents of a packed holder: a compression section of a kind other than 0, or a GUID-defined one with attribute bit 0 set
 pub record PackedContents (s : List ℕ) (at i : ℕ) : Type 0 where
-  pub kind : ℕ
+  pub sectionType : ℕ
   pub end : ℕ
-  pub closed : headAt s at ≡ Closed kind end
-  pub holds : isHolder (kindOf kind .class) ≡ true
+  pub closed : headAt s at ≡ Closed sectionType end
+  pub holds : isHolder (typeInfo sectionType .class) ≡ true
   pub packs : packed s at ≡ true
   pub low : contentsAt s at ≤ i
   pub high : i < end
@@ -53,10 +54,10 @@ Unread = OnWalk Body
 packed-body : {s : List ℕ} {at i : ℕ} → PackedContents s at i → Body s at i
 packed-body {s} {at} {i} p =
     let c = is-closed s at (p .closed) in
-    let w = contents-within s at (c .whole) (rw (c .kind) at (p .holds)) in
-    let k : kindOf (p .kind) .least ≡ kindOf (typeAt s at) .least = rw (c .kind) in
+    let w = contents-within s at (c .whole) (rw (c .typed) at (p .holds)) in
+    let k : typeInfo (p .sectionType) .least ≡ typeInfo (typeAt s at) .least = rw (c .typed) in
     let a = p .low in
-    record { kind = p .kind; end = p .end; closed = p .closed; low = omega arith; high = p .high }
+    record { sectionType = p .sectionType; end = p .end; closed = p .closed; low = omega arith; high = p .high }
 
 -- packed contents, on every level, are such bodies
 pub packed-unread : {n : ℕ} {s : List ℕ} {at i : ℕ} → OnWalk PackedContents n s at i → Unread n s at i
@@ -71,28 +72,28 @@ pub record SameBut (n : ℕ) (s s′ : List ℕ) (at : ℕ) : Type 0 where
   pub bytes : (i : ℕ) → at ≤ i → (Unread n s at i → ⊥) → getD s i 0 ≡ getD s′ i 0
 
 -- no such byte lies in the header at the start, nor past the end
-unread-range : {n : ℕ} {s : List ℕ} {at i : ℕ} → Unread n s at i → (at + kindOf (typeAt s at) .least ≤ i) × (at ≤ i) × (i < length s)
+unread-range : {n : ℕ} {s : List ℕ} {at i : ℕ} → Unread n s at i → (at + typeInfo (typeAt s at) .least ≤ i) × (at ≤ i) × (i < length s)
 unread-range {s = s} {at = at} (here x) =
     let c = is-closed s at (x .closed) in
-    let k : kindOf (x .kind) .least ≡ kindOf (typeAt s at) .least = rw (c .kind) in
+    let k : typeInfo (x .sectionType) .least ≡ typeInfo (typeAt s at) .least = rw (c .typed) in
     let w = closed-within s at (x .closed) in
     (omega arith, omega arith, omega arith)
 unread-range {s = s} {at = at} (after-closed {t = t} p u) =
     let c = is-closed s at p in
-    let k : kindOf t .least ≡ kindOf (typeAt s at) .least = rw (c .kind) in
+    let k : typeInfo t .least ≡ typeInfo (typeAt s at) .least = rw (c .typed) in
     let w = closed-within s at p in
     let r = unread-range u in
     (omega arith, omega arith, r .2)
 unread-range {s = s} {at = at} (inside {j = j} {t = t} {f = f} {e = e} p q u) =
     let c = is-open s at p in
-    let k : kindOf t .least ≡ kindOf (typeAt s at) .least = rw (c .kind) in
+    let k : typeInfo t .least ≡ typeInfo (typeAt s at) .least = rw (c .typed) in
     let w = open-within s at p in
     let r : j < length (part f e s) = unread-range u .2 in
     let l : length (part f e s) ≤ e - f = simp length-take (omega arith) in
     (omega arith, omega arith, omega arith)
 unread-range {s = s} {at = at} (after-open {t = t} p u) =
     let c = is-open s at p in
-    let k : kindOf t .least ≡ kindOf (typeAt s at) .least = rw (c .kind) in
+    let k : typeInfo t .least ≡ typeInfo (typeAt s at) .least = rw (c .typed) in
     let w = open-within s at p in
     let r = unread-range u in
     (omega arith, omega arith, r .2)
@@ -213,12 +214,12 @@ walk-unread (suc n) s s′ base b =
     (λ m l l′ c z x. walk-unread n l l′ c (let e : m ≡ n = omega arith in rw e at x)) (length s) s s′ base 0 b)
 
 -- nor does any search
-pub search-unread : (s s′ : List ℕ) (kind instance : ℕ) → SameBut 7 s s′ 0 → searchOf s kind instance ≡ searchOf s′ kind instance
+pub search-unread : (s s′ : List ℕ) (t instance : ℕ) → SameBut 7 s s′ 0 → searchOf s t instance ≡ searchOf s′ t instance
 unfolding searchOf streamWalk
-search-unread s s′ kind instance b = rw (← b .long, walk-unread 7 s s′ 0 b)
+search-unread s s′ t instance b = rw (← b .long, walk-unread 7 s s′ 0 b)
 
 -- in particular, bytes inside packed contents change no answer
-pub search-packed : (s s′ : List ℕ) (kind instance : ℕ) → length s ≡ length s′
-    → ((i : ℕ) → (OnWalk PackedContents 7 s 0 i → ⊥) → getD s i 0 ≡ getD s′ i 0) → searchOf s kind instance ≡ searchOf s′ kind instance
-search-packed s s′ kind instance long same =
-    search-unread s s′ kind instance (record { long = long; bytes = λ i p x. same i (λ u. x (packed-unread u)) })
+pub search-packed : (s s′ : List ℕ) (t instance : ℕ) → length s ≡ length s′
+    → ((i : ℕ) → (OnWalk PackedContents 7 s 0 i → ⊥) → getD s i 0 ≡ getD s′ i 0) → searchOf s t instance ≡ searchOf s′ t instance
+search-packed s s′ t instance long same =
+    search-unread s s′ t instance (record { long = long; bytes = λ i p x. same i (λ u. x (packed-unread u)) })

@@ -1,0 +1,4 @@
+-- Laws of the section header.
+pub mod Decided
+pub mod Extent
+pub mod Tests

@@ -1,0 +1,4 @@
+-- Laws of searching.
+pub mod Order
+pub mod Shown
+pub mod Unread

@@ -1,0 +1,2 @@
+-- Laws of the section types.
+pub mod Rows

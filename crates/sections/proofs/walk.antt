@@ -1,0 +1,6 @@
+-- Laws of the walk.
+pub mod Carried
+pub mod Inside
+pub mod Padding
+pub mod Starts
+pub mod Turns
