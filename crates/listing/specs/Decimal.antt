@@ -4,6 +4,10 @@ use mathlib.Core.Bool.{cond}
 use mathlib.Core.List.{List, [], _∷_, _++_}
 use lib.Dec.{ltb}
 
+-- a number of 64 bits has at most 20 digits
+abbrev pub maxDigits : ℕ
+maxDigits = 20
+
 -- how many digits n has, where `fuel` is at least n; `places-step` of proofs/ is the law without fuel
 unfoldable pub placesFrom : ℕ → ℕ → ℕ
 placesFrom zero n = 1

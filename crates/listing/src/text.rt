@@ -3,8 +3,8 @@ ghost use mathlib.Core.Path.{_≡_};
 ghost use Prim.Native.Nat.{_+_, _≤_, _<_, _^_};
 ghost use lib.ListN.{length};
 ghost use lib.Seq.{sets};
-ghost use Rattle.listing.specs.Decimal.{digits, places};
-ghost use Rattle.listing.specs.Listing.{field};
+ghost use Rattle.listing.specs.Decimal.{digits, maxDigits, places};
+ghost use Rattle.listing.specs.Listing.{field, maxField};
 
 // Stores a word, and answers the place after it.
 pub(crate) fn put_word(room: &mut [u8], at: usize, word: &[u8]) -> usize
@@ -17,8 +17,8 @@ pub(crate) fn put_word(room: &mut [u8], at: usize, word: &[u8]) -> usize
 
 // Stores a tab and a number in decimal, and answers the place after it.
 pub(crate) fn put_field(room: &mut [u8], at: usize, x: u64) -> usize
-    requires { ⌜ at ≤ 65536 ⌝ }
-    ensures { λ r. ⌜ (r ≡ at + length (field x)) × (now (room .exit) ≡ sets (now (room .entry)) at (field x)) × (r ≤ at + 21) ⌝ }
+    requires { ⌜ at + maxField < 2 ^ 64 ⌝ }
+    ensures { λ r. ⌜ (r ≡ at + length (field x)) × (now (room .exit) ≡ sets (now (room .entry)) at (field x)) × (r ≤ at + maxField) ⌝ }
 {
     let k = count_digits(x);
     numbers::store(room, at, 1, 9);
@@ -28,7 +28,7 @@ pub(crate) fn put_field(room: &mut [u8], at: usize, x: u64) -> usize
 
 // How many decimal digits a number has.
 fn count_digits(x: u64) -> usize
-    ensures { λ r. ⌜ (r ≡ places x) × (r ≤ 20) ⌝ }
+    ensures { λ r. ⌜ (r ≡ places x) × (r ≤ maxDigits) ⌝ }
 {
     let mut k = 1;
     let mut rest = x;
@@ -41,7 +41,7 @@ fn count_digits(x: u64) -> usize
 
 // Stores the last k digits of a number, from the last to the first.
 fn put_digits(room: &mut [u8], at: usize, k: usize, x: u64)
-    requires { ⌜ (at ≤ 65537) × (k ≤ 20) ⌝ }
+    requires { ⌜ at + k < 2 ^ 64 ⌝ }
     ensures { λ _. ⌜ now (room .exit) ≡ sets (now (room .entry)) at (digits k x) ⌝ }
 {
     let mut rest = x;

@@ -4,7 +4,7 @@ use mathlib.Core.Path.{_≡_, _∙_}
 use native.Mathlib.Omega.{arith}
 use borrow.Author.Needs.{needs}
 use lib.ListN.{length}
-use Rattle.listing.proofs.Decimal.{Spelled, spelled-start, spelled-next, spelled-end}
+use Rattle.listing.proofs.text.Decimal.{Spelled, spelled-start, spelled-next, spelled-end}
 use Rattle.listing.proofs.text.put_digits.Statement.{statement}
 use Rattle.listing.proofs.text.put_digits.Tie as tie
 
