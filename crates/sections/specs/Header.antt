@@ -65,12 +65,16 @@ headFaults s at =
     ∷ row (isHolder (typeInfo (typeAt s at) .class) && wrongContents s at) 204
     ∷ []
 
+-- the first byte of what a section shows: "the part of the lent stream after the section's first 4 bytes"
+abbrev pub firstAt : (at : ℕ) → ℕ
+firstAt at = at + commonHeader
+
 -- a section without a fault: a holder whose contents are searched, or one that is not opened
 unfoldable pub sectionAt : List ℕ → ℕ → Head
 sectionAt s at =
     cond (isHolder (typeInfo (typeAt s at) .class) && not (packed s at))
-    (Open (typeAt s at) (contentsAt s at) (at + sizeAt s at))
-    (Closed (typeAt s at) (at + sizeAt s at))
+    (Open (typeAt s at) (firstAt at) (contentsAt s at) (at + sizeAt s at))
+    (Closed (typeAt s at) (firstAt at) (at + sizeAt s at))
 
 -- what stands at byte `at` of a stream, where bytes are left: the first fault that applies, or the section
 unfoldable pub headAt : List ℕ → ℕ → Head

@@ -22,15 +22,18 @@ const DATA_OFFSET: usize = 20;
 const ATTRIBUTES: usize = 22;
 
 // What stands at a start: a fault, a section that is not opened (a leaf, or a holder with packed
-// contents), or a holder whose contents, from `from` to `end`, are searched.
+// contents), or a holder whose contents, from `from` to `end`, are searched. A section shows the
+// bytes from `first` to `end`.
 pub(crate) enum Head {
     Fault(u16),
     Closed {
         section_type: u8,
+        first: usize,
         end: usize,
     },
     Open {
         section_type: u8,
+        first: usize,
         from: usize,
         end: usize,
     },
@@ -55,12 +58,21 @@ pub(crate) fn read_head(s: &[u8], at: usize) -> Head
     if left < size {
         return Head::Fault(203);
     }
+    let first = at + COMMON_HEADER;
     let end = at + size;
     let class = info.class;
     match class {
         Class::OpenableHolder => holder(s, at, section_type, size),
-        Class::GuidHeadedLeaf => Head::Closed { section_type, end },
-        Class::PlainLeaf => Head::Closed { section_type, end },
+        Class::GuidHeadedLeaf => Head::Closed {
+            section_type,
+            first,
+            end,
+        },
+        Class::PlainLeaf => Head::Closed {
+            section_type,
+            first,
+            end,
+        },
     }
 }
 
@@ -79,13 +91,19 @@ fn holder(s: &[u8], at: usize, section_type: u8, size: usize) -> Head
     if size < offset {
         return Head::Fault(204);
     }
+    let first = at + COMMON_HEADER;
     let from = at + offset;
     let end = at + size;
     if numbers::u16_at(s, at + ATTRIBUTES) % 2 == 1 {
-        return Head::Closed { section_type, end };
+        return Head::Closed {
+            section_type,
+            first,
+            end,
+        };
     }
     Head::Open {
         section_type,
+        first,
         from,
         end,
     }
@@ -97,16 +115,22 @@ fn compressed(s: &[u8], at: usize, size: usize) -> Head
     ensures { λ r. ⌜ r ≡ headAt (now (s .entry)) at ⌝ }
 {
     let section_type = SECTION_COMPRESSION;
+    let first = at + COMMON_HEADER;
     let from = at + COMPRESSION_HEADER;
     let end = at + size;
     if numbers::byte_at(s, at + COMPRESSION_KIND) != 0 {
-        return Head::Closed { section_type, end };
+        return Head::Closed {
+            section_type,
+            first,
+            end,
+        };
     }
     if numbers::u32_at(s, at + UNPACKED_LENGTH) as usize != size - COMPRESSION_HEADER {
         return Head::Fault(204);
     }
     Head::Open {
         section_type,
+        first,
         from,
         end,
     }

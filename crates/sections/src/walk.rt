@@ -6,7 +6,6 @@ ghost use Rattle.sections.specs.Walk.{aligned as alignedOf, walk, zeros}
 ghost use Rattle.sections.specs.Seek.{visited, halted, run};
 use crate::header::Head;
 use crate::header::read_head;
-use crate::types::COMMON_HEADER;
 
 // What the walk carries along: the first fault; or how many sections of the type wanted are still
 // to be passed; or the part of the one wanted.
@@ -30,8 +29,11 @@ pub(crate) fn walk_stream(s: &[u8], base: usize, below: u64, want: u8, start: Se
             Head::Fault(n) => {
                 return halt(n, seek);
             }
-            Head::Closed { section_type, end } => {
-                let first = at + COMMON_HEADER;
+            Head::Closed {
+                section_type,
+                first,
+                end,
+            } => {
                 seek = visit(want, seek, section_type, base + first, base + end);
                 let next = aligned(end);
                 if !zero_bytes(s, end, next - end) {
@@ -41,13 +43,13 @@ pub(crate) fn walk_stream(s: &[u8], base: usize, below: u64, want: u8, start: Se
             }
             Head::Open {
                 section_type,
+                first,
                 from,
                 end,
             } => {
                 if below == 0 {
                     return halt(205, seek);
                 }
-                let first = at + COMMON_HEADER;
                 let met = visit(want, seek, section_type, base + first, base + end);
                 let inner = walk_stream(&s[from..end], base + from, below - 1, want, met);
                 if let Seek::Refused(n) = inner {

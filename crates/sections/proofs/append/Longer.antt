@@ -135,10 +135,10 @@ module _ (s : List ℕ) (sectionType : ℕ) (body : List ℕ) where
 
   module _ (leaves : isHolder (typeInfo sectionType .class) ≡ false) (least : typeInfo sectionType .least ≤ leafSize (length body))
       (small : leafSize (length body) ≤ sizeLimit) where
-    leaf-head : headAt after start ≡ Closed sectionType finish
+    leaf-head : headAt after start ≡ Closed sectionType (start + 4) finish
     leaf-head =
         let n = after-length in
-        sym (head-leaf after start {info = typeInfo sectionType} (sym leaf-type) (sym (leaf-size small)) refl leaves (omega arith) least (omega arith))
+        sym (head-leaf after start {info = typeInfo sectionType} (sym leaf-type) refl (sym (leaf-size small)) refl refl leaves (omega arith) least (omega arith) refl (omega arith))
 
     -- the new section on the walk
     abbrev new : ℕ → Trace
@@ -161,7 +161,7 @@ module _ (s : List ℕ) (sectionType : ℕ) (body : List ℕ) where
     kept n base at (Fault m) p inside later well =
         let q : _≡_ {A = Option ℕ} (some m) none = rw (walk-fault n s base at inside p) at well in
         let z : _≡_ {A = ℕ} 0 1 = cc in absurd (omega arith)
-    kept n base at (Closed t e) p inside later well =
+    kept n base at (Closed t first e) p inside later well =
         let w = closed-within s at p in
         let l = after-length in
         let rest = walkFrom n s base in
@@ -169,14 +169,14 @@ module _ (s : List ℕ) (sectionType : ℕ) (body : List ℕ) where
         let pad = padding-none s e rest (rw old at well) in
         let next = later (aligned e) (omega arith) (omega arith) (omega arith) (pad .1) in
         walk-closed n after base at (omega arith) (kept-head at (is-closed s at p .whole) ∙ p)
-        ∙ ap (section t (base + (at + 4)) (base + e))
-        (padding-zero after e (walkFrom n after base) (kept-padding e (w .2) (pad .0)) ∙ next
+        ∙ ap (section t (base + first) (base + e))
+        (padding-zero after e (walkFrom n after base) (kept-padding e (w .3) (pad .0)) ∙ next
         ∙ ap (λ (x : Trace). andThen x (new base)) (sym (padding-zero s e rest (pad .0))))
         ∙ sym (ap (λ (x : Trace). andThen x (new base)) old)
-    kept zero base at (Open t f e) p inside later well =
+    kept zero base at (Open t first f e) p inside later well =
         let q : _≡_ {A = Option ℕ} (some 205) none = rw (walk-205 s base at inside p) at well in
         let z : _≡_ {A = ℕ} 0 1 = cc in absurd (omega arith)
-    kept (suc n) base at (Open t f e) p inside later well =
+    kept (suc n) base at (Open t first f e) p inside later well =
         let w = open-within s at p in
         let l = after-length in
         let rest = walkFrom (suc n) s base in
@@ -185,11 +185,11 @@ module _ (s : List ℕ) (sectionType : ℕ) (body : List ℕ) where
         let pad = padding-none s e rest (none-then children (afterPadding s e rest) (rw old at well)) in
         let next = later (aligned e) (omega arith) (omega arith) (omega arith) (pad .1) in
         walk-open n after base at (omega arith) (kept-head at (is-open s at p .whole) ∙ p)
-        ∙ ap₂ (λ (l : List ℕ) (x : Trace). section t (base + (at + 4)) (base + e) (andThen (walk n l (base + f)) x))
-        (same-part f e (w .2) (w .3))
-        (padding-zero after e (walkFrom (suc n) after base) (kept-padding e (w .3) (pad .0)) ∙ next
+        ∙ ap₂ (λ (l : List ℕ) (x : Trace). section t (base + first) (base + e) (andThen (walk n l (base + f)) x))
+        (same-part f e (w .3) (w .4))
+        (padding-zero after e (walkFrom (suc n) after base) (kept-padding e (w .4) (pad .0)) ∙ next
         ∙ ap (λ (x : Trace). andThen x (new base)) (sym (padding-zero s e rest (pad .0))))
-        ∙ ap (section t (base + (at + 4)) (base + e)) (sym (then-assoc children (afterPadding s e rest) (new base)))
+        ∙ ap (section t (base + first) (base + e)) (sym (then-assoc children (afterPadding s e rest) (new base)))
         ∙ sym (ap (λ (x : Trace). andThen x (new base)) old)
 
     longer : (fuel n base at : ℕ) → length s ≤ at + fuel → at % 4 ≡ 0 → at ≤ start → firstFault (walkFrom n s base at) ≡ none

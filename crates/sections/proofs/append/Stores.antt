@@ -33,32 +33,32 @@ one-byte x h = let e : x % 256 ≡ x = omega arith in rw e
 then-sets : (a b l m : List ℕ) (i j : ℕ) → m ≡ sets l i a → j ≡ i + length a → sets m j b ≡ sets l i (a ++ b)
 then-sets a b l m i j e q = rw (e, q) (sym (sets-append a b l i))
 
--- padding, size, type and body stored one after another are the leaf stored with its padding
-pub leaf-stored : (l l₁ l₂ l₃ body w : List ℕ) (used start t k : ℕ)
-    → l₁ ≡ sets l used (leBytes (start - used) 0) → l₂ ≡ sets l₁ start (leBytes 3 (leafSize (length body)))
-    → l₃ ≡ sets l₂ (start + 3) (leBytes 1 t) → w ≡ take (length body) body ++ drop (length body) (take k (drop (start + 4) l₃))
-    → start ≡ aligned used → t < 256 → k ≡ length body → start + 4 + k ≤ length l
-    → take (start + 4) l₃ ++ (w ++ drop k (drop (start + 4) l₃)) ≡ sets l used (added used t body)
+-- padding, size, type and body stored one after another, each where the one before ends, are the leaf stored with its padding
+pub leaf-stored : (l l₁ l₂ l₃ body w : List ℕ) (used pad start size at t from k : ℕ)
+    → l₁ ≡ sets l used (leBytes pad 0) → l₂ ≡ sets l₁ start (leBytes 3 size) → l₃ ≡ sets l₂ at (leBytes 1 t)
+    → w ≡ take (length body) body ++ drop (length body) (take k (drop from l₃))
+    → start ≡ aligned used → pad ≡ start - used → size ≡ leafSize (length body) → at ≡ start + 3 → from ≡ start + 4
+    → t < 256 → k ≡ length body → from + k ≤ length l → take from l₃ ++ (w ++ drop k (drop from l₃)) ≡ sets l used (added used t body)
 unfolding added leaf
-leaf-stored l l₁ l₂ l₃ body w used start t k e₁ e₂ e₃ ew sa small n fits =
-    let z : List ℕ = leBytes (start - used) 0 in
-    let h : List ℕ = leBytes 3 (leafSize (length body)) in
+leaf-stored l l₁ l₂ l₃ body w used pad start size at t from k e₁ e₂ e₃ ew sa pe se ae fe small n fits =
+    let z : List ℕ = leBytes pad 0 in
+    let h : List ℕ = leBytes 3 size in
     let b : List ℕ = leBytes 1 t in
-    let lz : length z ≡ start - used = length-leBytes (start - used) 0 in
-    let lh : length h ≡ 3 = length-leBytes 3 (leafSize (length body)) in
+    let lz : length z ≡ pad = length-leBytes pad 0 in
+    let lh : length h ≡ 3 = length-leBytes 3 size in
     let lb : length b ≡ 1 = length-leBytes 1 t in
     let lzh : length (z ++ h) ≡ length z + length h = length-append z h in
     let lzhb : length ((z ++ h) ++ b) ≡ length (z ++ h) + length b = length-append (z ++ h) b in
     let s₂ : l₂ ≡ sets l used (z ++ h) = e₂ ∙ then-sets z h l l₁ used start e₁ (omega arith) in
-    let s₃ : l₃ ≡ sets l used ((z ++ h) ++ b) = e₃ ∙ then-sets (z ++ h) b l l₂ used (start + 3) s₂ (omega arith) in
-    let s₄ : sets l₃ (start + 4) body ≡ sets l used (((z ++ h) ++ b) ++ body) =
-    then-sets ((z ++ h) ++ b) body l l₃ used (start + 4) s₃ (omega arith) in
+    let s₃ : l₃ ≡ sets l used ((z ++ h) ++ b) = e₃ ∙ then-sets (z ++ h) b l l₂ used at s₂ (omega arith) in
+    let s₄ : sets l₃ from body ≡ sets l used (((z ++ h) ++ b) ++ body) =
+    then-sets ((z ++ h) ++ b) body l l₃ used from s₃ (omega arith) in
     let l₃-length : length l₃ ≡ length l = ap length s₃ ∙ length-sets l used ((z ++ h) ++ b) in
-    let bytes : ((z ++ h) ++ b) ++ body ≡ replicate (aligned used - used) 0 ++ (h ++ t ∷ body) =
-    ap (λ (x : List ℕ). ((x ++ h) ++ b) ++ body) (zero-bytes (start - used) ∙ ap (λ (x : ℕ). replicate (x - used) 0) sa)
-    ∙ ap (λ (x : List ℕ). ((replicate (aligned used - used) 0 ++ h) ++ x) ++ body) (one-byte t small)
-    ∙ simp append-assoc in
-    rw ew (sets-part body l₃ (start + 4) k n (omega arith)) ∙ s₄ ∙ ap (sets l used) bytes
+    let padding : z ≡ replicate (aligned used - used) 0 = zero-bytes pad ∙ rw (pe, sa) in
+    let header : h ≡ leBytes 3 (leafSize (length body)) = rw se in
+    let bytes : ((z ++ h) ++ b) ++ body ≡ replicate (aligned used - used) 0 ++ (leBytes 3 (leafSize (length body)) ++ t ∷ body) =
+    rw (padding, header, one-byte t small) (simp append-assoc) in
+    rw ew (sets-part body l₃ from k n (omega arith)) ∙ s₄ ∙ ap (sets l used) bytes
 
 -- the padding and the leaf take the bytes up to the new used count
 pub length-leaf : (t : ℕ) (body : List ℕ) → length (leaf t body) ≡ leafSize (length body)

@@ -12,7 +12,7 @@ use lib.ListN.{length}
 use Rattle.common.specs.Refusals.{firstRefusal}
 use Rattle.common.proofs.Refusals.{row-passed}
 use Rattle.sections.specs.Types.{compression, typeInfo}
-use Rattle.sections.specs.Header.{sizeAt, typeAt, dataOffset, isHolder, contentsAt, packed, wrongContents, headFaults, sectionAt, headAt}
+use Rattle.sections.specs.Header.{sizeAt, typeAt, dataOffset, isHolder, contentsAt, firstAt, packed, wrongContents, headFaults, sectionAt, headAt}
 use Rattle.sections.specs.declared.header.Head.the-variants.{Fault, Closed, Open}
 use Rattle.sections.proofs.types.Rows.{least-range, least-compression}
 
@@ -38,63 +38,65 @@ head-cases s at = go (firstRefusal (headFaults s at)) refl
         inr (rw e, record { four = ltb-false _ _ (a .0); least = ltb-false _ _ (b .0); fits = ltb-false _ _ (c .0); right = d .0 })
 
 -- a section that is not opened, and one that is
-pub record IsClosed (s : List ℕ) (at t e : ℕ) : Type 0 where
+pub record IsClosed (s : List ℕ) (at t first e : ℕ) : Type 0 where
   pub whole : Whole s at
   pub typed : t ≡ typeAt s at
+  pub shows : first ≡ firstAt at
   pub end : e ≡ at + sizeAt s at
 
-pub record IsOpen (s : List ℕ) (at t f e : ℕ) : Type 0 where
+pub record IsOpen (s : List ℕ) (at t first f e : ℕ) : Type 0 where
   pub whole : Whole s at
   pub typed : t ≡ typeAt s at
+  pub shows : first ≡ firstAt at
   pub from : f ≡ contentsAt s at
   pub end : e ≡ at + sizeAt s at
   pub holds : isHolder (typeInfo (typeAt s at) .class) ≡ true
 
-pub is-closed : (s : List ℕ) (at : ℕ) {t e : ℕ} → headAt s at ≡ Closed t e → IsClosed s at t e
+pub is-closed : (s : List ℕ) (at : ℕ) {t first e : ℕ} → headAt s at ≡ Closed t first e → IsClosed s at t first e
 unfolding sectionAt
-is-closed s at {t} {e} p = go (head-cases s at)
+is-closed s at {t} {first} {e} p = go (head-cases s at)
   where
-    cases : Whole s at → (b : Bool) → (isHolder (typeInfo (typeAt s at) .class) && not (packed s at)) ≡ b → sectionAt s at ≡ Closed t e → IsClosed s at t e
+    cases : Whole s at → (o : Bool) → (isHolder (typeInfo (typeAt s at) .class) && not (packed s at)) ≡ o → sectionAt s at ≡ Closed t first e → IsClosed s at t first e
     cases w true x q =
-        let r : Open (typeAt s at) (contentsAt s at) (at + sizeAt s at) ≡ Closed t e = rw x at q in
+        let r : Open (typeAt s at) (firstAt at) (contentsAt s at) (at + sizeAt s at) ≡ Closed t first e = rw x at q in
         let z : _≡_ {A = ℕ} 0 1 = cc in absurd (omega arith)
     cases w false x q =
-        let r : Closed (typeAt s at) (at + sizeAt s at) ≡ Closed t e = rw x at q in
-        record { whole = w; typed = cc; end = cc }
+        let r : Closed (typeAt s at) (firstAt at) (at + sizeAt s at) ≡ Closed t first e = rw x at q in
+        record { whole = w; typed = cc; shows = cc; end = cc }
 
-    go : ((n : ℕ) × (headAt s at ≡ Fault n)) ⊎ ((headAt s at ≡ sectionAt s at) × Whole s at) → IsClosed s at t e
+    go : ((n : ℕ) × (headAt s at ≡ Fault n)) ⊎ ((headAt s at ≡ sectionAt s at) × Whole s at) → IsClosed s at t first e
     go (inl x) = let y = x .1 in let z : _≡_ {A = ℕ} 0 1 = cc in absurd (omega arith)
     go (inr x) = cases (x .1) _ refl (sym (x .0) ∙ p)
 
-pub is-open : (s : List ℕ) (at : ℕ) {t f e : ℕ} → headAt s at ≡ Open t f e → IsOpen s at t f e
+pub is-open : (s : List ℕ) (at : ℕ) {t first f e : ℕ} → headAt s at ≡ Open t first f e → IsOpen s at t first f e
 unfolding sectionAt
-is-open s at {t} {f} {e} p = go (head-cases s at)
+is-open s at {t} {first} {f} {e} p = go (head-cases s at)
   where
     held : (b : Bool) → isHolder (typeInfo (typeAt s at) .class) ≡ b → (isHolder (typeInfo (typeAt s at) .class) && not (packed s at)) ≡ true
         → isHolder (typeInfo (typeAt s at) .class) ≡ true
     held true x q = x
     held false x q = let r : false ≡ true = rw x at q in let z : _≡_ {A = ℕ} 0 1 = cc in absurd (omega arith)
 
-    cases : Whole s at → (b : Bool) → (isHolder (typeInfo (typeAt s at) .class) && not (packed s at)) ≡ b → sectionAt s at ≡ Open t f e → IsOpen s at t f e
+    cases : Whole s at → (o : Bool) → (isHolder (typeInfo (typeAt s at) .class) && not (packed s at)) ≡ o → sectionAt s at ≡ Open t first f e → IsOpen s at t first f e
     cases w true x q =
-        let r : Open (typeAt s at) (contentsAt s at) (at + sizeAt s at) ≡ Open t f e = rw x at q in
-        record { whole = w; typed = cc; from = cc; end = cc; holds = held _ refl x }
+        let r : Open (typeAt s at) (firstAt at) (contentsAt s at) (at + sizeAt s at) ≡ Open t first f e = rw x at q in
+        record { whole = w; typed = cc; shows = cc; from = cc; end = cc; holds = held _ refl x }
     cases w false x q =
-        let r : Closed (typeAt s at) (at + sizeAt s at) ≡ Open t f e = rw x at q in
+        let r : Closed (typeAt s at) (firstAt at) (at + sizeAt s at) ≡ Open t first f e = rw x at q in
         let z : _≡_ {A = ℕ} 0 1 = cc in absurd (omega arith)
 
-    go : ((n : ℕ) × (headAt s at ≡ Fault n)) ⊎ ((headAt s at ≡ sectionAt s at) × Whole s at) → IsOpen s at t f e
+    go : ((n : ℕ) × (headAt s at ≡ Fault n)) ⊎ ((headAt s at ≡ sectionAt s at) × Whole s at) → IsOpen s at t first f e
     go (inl x) = let y = x .1 in let z : _≡_ {A = ℕ} 0 1 = cc in absurd (omega arith)
     go (inr x) = cases (x .1) _ refl (sym (x .0) ∙ p)
 
 -- a section lies inside its stream, and contents that are searched inside their section, after the type's own header
-pub closed-within : (s : List ℕ) (at : ℕ) {t e : ℕ} → headAt s at ≡ Closed t e → (at + typeInfo t .least ≤ e) × (at + 4 ≤ e) × (e ≤ length s)
-closed-within s at {t} {e} p =
+pub closed-within : (s : List ℕ) (at : ℕ) {t first e : ℕ} → headAt s at ≡ Closed t first e → (at + typeInfo t .least ≤ e) × (first ≡ at + 4) × (first ≤ e) × (e ≤ length s)
+closed-within s at {t} {first} {e} p =
     let c = is-closed s at p in
     let w = c .whole in
     let q = least-range (typeAt s at) .0 in
     let k : typeInfo t .least ≡ typeInfo (typeAt s at) .least = rw (c .typed) in
-    (omega arith, omega arith, omega arith)
+    (omega arith, omega arith, omega arith, omega arith)
 
 neither : (a b : Bool) → (a || b) ≡ false → (a ≡ false) × (b ≡ false)
 neither true b p = let z : _≡_ {A = ℕ} 0 1 = cc in absurd (omega arith)
@@ -117,11 +119,11 @@ contents-within s at w holds = go (eqb (typeAt s at) compression) refl
         let q = least-range (typeAt s at) in
         rw x (omega arith, omega arith)
 
-pub open-within : (s : List ℕ) (at : ℕ) {t f e : ℕ} → headAt s at ≡ Open t f e → (at + typeInfo t .least ≤ f) × (at + 4 ≤ f) × (f ≤ e) × (e ≤ length s)
-open-within s at {t} {f} {e} p =
+pub open-within : (s : List ℕ) (at : ℕ) {t first f e : ℕ} → headAt s at ≡ Open t first f e → (at + typeInfo t .least ≤ f) × (first ≡ at + 4) × (first ≤ f) × (f ≤ e) × (e ≤ length s)
+open-within s at {t} {first} {f} {e} p =
     let o = is-open s at p in
     let w = o .whole in
     let c = contents-within s at w (o .holds) in
     let k : typeInfo t .least ≡ typeInfo (typeAt s at) .least = rw (o .typed) in
     let q = least-range (typeAt s at) .0 in
-    (omega arith, omega arith, omega arith, omega arith)
+    (omega arith, omega arith, omega arith, omega arith, omega arith)

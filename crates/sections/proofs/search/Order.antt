@@ -25,13 +25,13 @@ fault-then (fault n) u p = let z : _≡_ {A = ℕ} 0 1 = cc in absurd (omega ari
 fault-then (section t f e rest) u p = fault-then rest u p
 
 -- a holder stands before its children, and they before all that follows the holder
-pub holder-first : (n : ℕ) (s : List ℕ) (base at : ℕ) {t f e : ℕ} → at < length s → headAt s at ≡ Open t f e
+pub holder-first : (n : ℕ) (s : List ℕ) (base at : ℕ) {t first f e : ℕ} → at < length s → headAt s at ≡ Open t first f e
     → firstFault (walk n (part f e s) (base + f)) ≡ none
     → sections (walkFrom (suc n) s base at)
-    ≡ record { sectionType = t; first = base + (at + 4); end = base + e }
+    ≡ record { sectionType = t; first = base + first; end = base + e }
     ∷ (sections (walk n (part f e s) (base + f)) ++ sections (afterPadding s e (walkFrom (suc n) s base)))
 unfolding sections
-holder-first n s base at {t} {f} {e} h p q =
+holder-first n s base at {t} {first} {f} {e} h p q =
     ap sections (walk-open n s base at h p)
-    ∙ ap (λ (l : List Section). record { sectionType = t; first = base + (at + 4); end = base + e } ∷ l)
+    ∙ ap (λ (l : List Section). record { sectionType = t; first = base + first; end = base + e } ∷ l)
     (sections-then (walk n (part f e s) (base + f)) (afterPadding s e (walkFrom (suc n) s base)) q)

@@ -26,23 +26,25 @@ use Rattle.sections.proofs.walk.Padding.{zeros-same}
 -- inside a holder
 pub data OnWalk (P : List ℕ → ℕ → ℕ → Type 0) : (n : ℕ) → List ℕ → (at i : ℕ) → Type 0 where
   here : {n : ℕ} {s : List ℕ} {at i : ℕ} → P s at i → OnWalk P n s at i
-  after-closed : {n : ℕ} {s : List ℕ} {at i t e : ℕ} → headAt s at ≡ Closed t e → OnWalk P n s (aligned e) i → OnWalk P n s at i
-  inside : {n : ℕ} {s : List ℕ} {at i j t f e : ℕ} → headAt s at ≡ Open t f e → i ≡ f + j → OnWalk P n (part f e s) 0 j → OnWalk P (suc n) s at i
-  after-open : {n : ℕ} {s : List ℕ} {at i t f e : ℕ} → headAt s at ≡ Open t f e → OnWalk P n s (aligned e) i → OnWalk P n s at i
+  after-closed : {n : ℕ} {s : List ℕ} {at i t first e : ℕ} → headAt s at ≡ Closed t first e → OnWalk P n s (aligned e) i → OnWalk P n s at i
+  inside : {n : ℕ} {s : List ℕ} {at i j t first f e : ℕ} → headAt s at ≡ Open t first f e → i ≡ f + j → OnWalk P n (part f e s) 0 j → OnWalk P (suc n) s at i
+  after-open : {n : ℕ} {s : List ℕ} {at i t first f e : ℕ} → headAt s at ≡ Open t first f e → OnWalk P n s (aligned e) i → OnWalk P n s at i
 
 -- the body of a section that is not opened, after its type's own header: a leaf's body, or what a packed holder holds
 pub record Body (s : List ℕ) (at i : ℕ) : Type 0 where
   pub sectionType : ℕ
+  pub first : ℕ
   pub end : ℕ
-  pub closed : headAt s at ≡ Closed sectionType end
+  pub closed : headAt s at ≡ Closed sectionType first end
   pub low : at + typeInfo sectionType .least ≤ i
   pub high : i < end
 
 -- the contents of a packed holder: a compression section of a kind other than 0, or a GUID-defined one with attribute bit 0 set
 pub record PackedContents (s : List ℕ) (at i : ℕ) : Type 0 where
   pub sectionType : ℕ
+  pub first : ℕ
   pub end : ℕ
-  pub closed : headAt s at ≡ Closed sectionType end
+  pub closed : headAt s at ≡ Closed sectionType first end
   pub holds : isHolder (typeInfo sectionType .class) ≡ true
   pub packs : packed s at ≡ true
   pub low : contentsAt s at ≤ i
@@ -57,7 +59,7 @@ packed-body {s} {at} {i} p =
     let w = contents-within s at (c .whole) (rw (c .typed) at (p .holds)) in
     let k : typeInfo (p .sectionType) .least ≡ typeInfo (typeAt s at) .least = rw (c .typed) in
     let a = p .low in
-    record { sectionType = p .sectionType; end = p .end; closed = p .closed; low = omega arith; high = p .high }
+    record { sectionType = p .sectionType; first = p .first; end = p .end; closed = p .closed; low = omega arith; high = p .high }
 
 -- packed contents, on every level, are such bodies
 pub packed-unread : {n : ℕ} {s : List ℕ} {at i : ℕ} → OnWalk PackedContents n s at i → Unread n s at i
@@ -99,25 +101,25 @@ unread-range {s = s} {at = at} (after-open {t = t} p u) =
     (omega arith, omega arith, r .2)
 
 -- past the section at the start such a byte is one of the walk from the next start on; in a holder's contents it is one of theirs
-closed-after : {n : ℕ} {s : List ℕ} {at i : ℕ} (t e : ℕ) → headAt s at ≡ Closed t e → e ≤ i → Unread n s at i → Unread n s (aligned e) i
-closed-after t e h low (here x) = let p = x .closed in let q : x .end ≡ e = cc in absurd (omega arith)
-closed-after {n} {s} {at} {i} t e h low (after-closed {e = e′} p u) = let q : e′ ≡ e = cc in subst (λ (x : ℕ). Unread n s (aligned x) i) q u
-closed-after t e h low (inside p q u) = let z : _≡_ {A = ℕ} 0 1 = cc in absurd (omega arith)
-closed-after t e h low (after-open p u) = let z : _≡_ {A = ℕ} 0 1 = cc in absurd (omega arith)
+closed-after : {n : ℕ} {s : List ℕ} {at i : ℕ} (t first e : ℕ) → headAt s at ≡ Closed t first e → e ≤ i → Unread n s at i → Unread n s (aligned e) i
+closed-after t first e h low (here x) = let p = x .closed in let q : x .end ≡ e = cc in absurd (omega arith)
+closed-after {n} {s} {at} {i} t first e h low (after-closed {e = e′} p u) = let q : e′ ≡ e = cc in subst (λ (x : ℕ). Unread n s (aligned x) i) q u
+closed-after t first e h low (inside p q u) = let z : _≡_ {A = ℕ} 0 1 = cc in absurd (omega arith)
+closed-after t first e h low (after-open p u) = let z : _≡_ {A = ℕ} 0 1 = cc in absurd (omega arith)
 
-unread-open : {n : ℕ} {s : List ℕ} {at i : ℕ} (t f e : ℕ) → headAt s at ≡ Open t f e → Unread n s at i
+unread-open : {n : ℕ} {s : List ℕ} {at i : ℕ} (t first f e : ℕ) → headAt s at ≡ Open t first f e → Unread n s at i
     → ((m : ℕ) × (j : ℕ) × (n ≡ suc m) × (i ≡ f + j) × Unread m (part f e s) 0 j) ⊎ Unread n s (aligned e) i
-unread-open t f e h (here x) = let p = x .closed in let z : _≡_ {A = ℕ} 0 1 = cc in absurd (omega arith)
-unread-open t f e h (after-closed p u) = let z : _≡_ {A = ℕ} 0 1 = cc in absurd (omega arith)
-unread-open {s = s} t f e h (inside {n = m} {j = j} {f = f′} {e = e′} p q u) =
+unread-open t first f e h (here x) = let p = x .closed in let z : _≡_ {A = ℕ} 0 1 = cc in absurd (omega arith)
+unread-open t first f e h (after-closed p u) = let z : _≡_ {A = ℕ} 0 1 = cc in absurd (omega arith)
+unread-open {s = s} t first f e h (inside {n = m} {j = j} {f = f′} {e = e′} p q u) =
     let x : f′ ≡ f = cc in
     let y : e′ ≡ e = cc in
     inl (m, j, refl, omega arith, rw (x, y) at u)
-unread-open {n} {s} {at} {i} t f e h (after-open {e = e′} p u) =
+unread-open {n} {s} {at} {i} t first f e h (after-open {e = e′} p u) =
     let q : e′ ≡ e = cc in inr (subst (λ (x : ℕ). Unread n s (aligned x) i) q u)
 
-open-after : {n : ℕ} {s : List ℕ} {at i : ℕ} (t f e : ℕ) → headAt s at ≡ Open t f e → e ≤ i → Unread n s at i → Unread n s (aligned e) i
-open-after {n} {s} {at} {i} t f e h low u = go (unread-open t f e h u)
+open-after : {n : ℕ} {s : List ℕ} {at i : ℕ} (t first f e : ℕ) → headAt s at ≡ Open t first f e → e ≤ i → Unread n s at i → Unread n s (aligned e) i
+open-after {n} {s} {at} {i} t first f e h low u = go (unread-open t first f e h u)
   where
     go : ((m : ℕ) × (j : ℕ) × (n ≡ suc m) × (i ≡ f + j) × Unread m (part f e s) 0 j) ⊎ Unread n s (aligned e) i → Unread n s (aligned e) i
     go (inl x) =
@@ -145,8 +147,8 @@ module _ (n : ℕ) (s s′ : List ℕ) (at : ℕ) (b : SameBut n s s′ at) wher
     same-next = record { long = b .long; bytes = λ i p x. b .bytes i (omega arith) (λ u. x (passed i (omega arith) u)) }
 
   -- the contents of a holder, as streams of their own
-  open-contents : (m t f e : ℕ) → n ≡ suc m → headAt s at ≡ Open t f e → SameBut m (part f e s) (part f e s′) 0
-  open-contents m t f e z h = record { long = simp (length-take, length-drop) (rw (b .long)); bytes = λ j p x. go j x (ltb j (e - f)) refl }
+  open-contents : (m t first f e : ℕ) → n ≡ suc m → headAt s at ≡ Open t first f e → SameBut m (part f e s) (part f e s′) 0
+  open-contents m t first f e z h = record { long = simp (length-take, length-drop) (rw (b .long)); bytes = λ j p x. go j x (ltb j (e - f)) refl }
     where
       other : (j : ℕ) → j < e - f → (Unread m (part f e s) 0 j → ⊥)
           → ((k : ℕ) × (j′ : ℕ) × (n ≡ suc k) × (f + j ≡ f + j′) × Unread k (part f e s) 0 j′) ⊎ Unread n s (aligned e) (f + j) → ⊥
@@ -163,7 +165,7 @@ module _ (n : ℕ) (s s′ : List ℕ) (at : ℕ) (b : SameBut n s s′ at) wher
           let a = ltb-true j (e - f) c in
           let w = open-within s at h in
           rw (getD-take (e - f) (drop f s) j 0 a, getD-take (e - f) (drop f s′) j 0 a, getD-drop, getD-drop)
-          (b .bytes (f + j) (omega arith) (λ u. other j a x (unread-open t f e h u)))
+          (b .bytes (f + j) (omega arith) (λ u. other j a x (unread-open t first f e h u)))
       go j x false c =
           let a = ltb-false j (e - f) c in
           let l : length (part f e s) ≤ j = simp length-take (omega arith) in
@@ -173,25 +175,25 @@ module _ (n : ℕ) (s s′ : List ℕ) (at : ℕ) (b : SameBut n s s′ at) wher
 module _ (n : ℕ) (inner : List ℕ → ℕ → Trace)
     (below : (m : ℕ) (l l′ : List ℕ) (b : ℕ) → n ≡ suc m → SameBut m l l′ 0 → inner l b ≡ inner l′ b) where
   meet-unread : (s s′ : List ℕ) (base at : ℕ) (rest rest′ : ℕ → Trace) (h : Head) → headAt s at ≡ h → SameBut n s s′ at
-      → ((next : ℕ) → SameBut n s s′ next → rest next ≡ rest′ next) → meet n inner s base at h rest ≡ meet n inner s′ base at h rest′
+      → ((next : ℕ) → SameBut n s s′ next → rest next ≡ rest′ next) → meet n inner s base h rest ≡ meet n inner s′ base h rest′
   unfolding meet afterPadding
   meet-unread s s′ base at rest rest′ (Fault m) h b q = refl
-  meet-unread s s′ base at rest rest′ (Closed t e) h b q =
+  meet-unread s s′ base at rest rest′ (Closed t first e) h b q =
       let w = closed-within s at h in
       rw (
-        same-padding n s s′ at b e (omega arith) (λ i p u. closed-after t e h p u),
-        q (aligned e) (same-next n s s′ at b e (omega arith) (λ i p u. closed-after t e h p u)),
+        same-padding n s s′ at b e (omega arith) (λ i p u. closed-after t first e h p u),
+        q (aligned e) (same-next n s s′ at b e (omega arith) (λ i p u. closed-after t first e h p u)),
       )
-  meet-unread s s′ base at rest rest′ (Open t f e) h b q = go n refl
+  meet-unread s s′ base at rest rest′ (Open t first f e) h b q = go n refl
     where
-      go : (k : ℕ) → n ≡ k → meet n inner s base at (Open t f e) rest ≡ meet n inner s′ base at (Open t f e) rest′
+      go : (k : ℕ) → n ≡ k → meet n inner s base (Open t first f e) rest ≡ meet n inner s′ base (Open t first f e) rest′
       go zero z = rw z
       go (suc k) z =
           let w = open-within s at h in
           rw (
-            same-padding n s s′ at b e (omega arith) (λ i p u. open-after t f e h p u),
-            q (aligned e) (same-next n s s′ at b e (omega arith) (λ i p u. open-after t f e h p u)),
-            below k (part f e s) (part f e s′) (base + f) z (open-contents n s s′ at b k t f e z h),
+            same-padding n s s′ at b e (omega arith) (λ i p u. open-after t first f e h p u),
+            q (aligned e) (same-next n s s′ at b e (omega arith) (λ i p u. open-after t first f e h p u)),
+            below k (part f e s) (part f e s′) (base + f) z (open-contents n s s′ at b k t first f e z h),
           )
 
   siblings-unread : (fuel : ℕ) (s s′ : List ℕ) (base at : ℕ) → SameBut n s s′ at → siblings n inner fuel s base at ≡ siblings n inner fuel s′ base at

@@ -1,11 +1,11 @@
--- Laws of what the code of the walk carries along: a refusal stays to the end, two walks in a row are run one after the other,
+-- Laws of what the code of the walk carries along: what a section does to it, a refusal stays to the end, two walks in a row are run one after the other,
 -- and what is carried to the end of a walk answers the search.
 use Prim.Native.Nat.{ℕ, zero, suc, _-_}
 use mathlib.Core.Path.{_≡_, refl, sym}
 use mathlib.Core.Bool.{Bool, true, false}
 use mathlib.Core.Option.{some}
 use native.Mathlib.Omega.{arith}
-use borrow.Author.Tests.{ne-eqb}
+use borrow.Author.Tests.{eq-eqb, ne-eqb}
 use lib.Dec.{eqb}
 use lib.ListN.{getElem?}
 use Rattle.common.specs.Answers.{Answer, refused}
@@ -15,6 +15,20 @@ use Rattle.sections.specs.Seek.{visited, halted, run, seekAnswer}
 use Rattle.sections.specs.Search.{sections, firstFault, ofType, partAnswer}
 use Rattle.sections.specs.declared.walk.Seek.{Seek}
 use Rattle.sections.specs.declared.walk.Seek.the-variants.{Refused, Left, Met}
+
+-- at a section, while i of the type wanted are still to be passed: one of another type, the one wanted, and one before it
+module _ (w t f e : ℕ) {a : Seek} {i : ℕ} (left : a ≡ Left i) where
+  pub visit-other : (t ≡ w → ⊥) → Left i ≡ visited w a t f e
+  unfolding visited
+  visit-other h = rw (left, ne-eqb t w h)
+
+  pub visit-met : t ≡ w → i ≡ 0 → Met f e ≡ visited w a t f e
+  unfolding visited
+  visit-met h z = rw (left, eq-eqb t w h, eq-eqb i 0 z)
+
+  pub visit-next : {j : ℕ} → t ≡ w → (i ≡ 0 → ⊥) → j ≡ i - 1 → Left j ≡ visited w a t f e
+  unfolding visited
+  visit-next h z n = rw (left, eq-eqb t w h, ne-eqb i 0 z, n)
 
 pub run-refused : (w n : ℕ) (x : Trace) → run w (Refused n) x ≡ Refused n
 unfolding run halted visited

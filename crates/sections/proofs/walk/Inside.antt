@@ -41,16 +41,16 @@ inside-padding low high s e rest p = go (zeros s e (aligned e - e))
 
 module _ (n : ℕ) (inner : List ℕ → ℕ → Trace) (below : (l : List ℕ) (b : ℕ) → Inside b (b + length l) (inner l b)) (s : List ℕ) (base : ℕ) where
   inside-meet : (at : ℕ) (rest : ℕ → Trace) (h : Head) → headAt s at ≡ h → ((next : ℕ) → Inside base (base + length s) (rest next))
-      → Inside base (base + length s) (meet n inner s base at h rest)
+      → Inside base (base + length s) (meet n inner s base h rest)
   unfolding meet
   inside-meet at rest (Fault m) p q = tt
-  inside-meet at rest (Closed t e) p q =
+  inside-meet at rest (Closed t first e) p q =
       let w = closed-within s at p in
       (omega arith, omega arith, omega arith, inside-padding base (base + length s) s e rest (q (aligned e)))
-  inside-meet at rest (Open t f e) p q = go (eqb n 0)
+  inside-meet at rest (Open t first f e) p q = go (eqb n 0)
     where
       go : (b : Bool) → Inside base (base + length s)
-          (cond b (fault 205) (section t (base + (at + 4)) (base + e) (andThen (inner (part f e s) (base + f)) (afterPadding s e rest))))
+          (cond b (fault 205) (section t (base + first) (base + e) (andThen (inner (part f e s) (base + f)) (afterPadding s e rest))))
       go true = tt
       go false =
           let w = open-within s at p in
@@ -70,8 +70,8 @@ module _ (n : ℕ) (inner : List ℕ → ℕ → Trace) (below : (l : List ℕ) 
   inside-siblings (suc fuel) at =
       go (ltb at (length s)) (inside-meet at (siblings n inner fuel s base) (headAt s at) refl (inside-siblings fuel))
     where
-      go : (b : Bool) → Inside base (base + length s) (meet n inner s base at (headAt s at) (siblings n inner fuel s base))
-          → Inside base (base + length s) (cond b (meet n inner s base at (headAt s at) (siblings n inner fuel s base)) done)
+      go : (b : Bool) → Inside base (base + length s) (meet n inner s base (headAt s at) (siblings n inner fuel s base))
+          → Inside base (base + length s) (cond b (meet n inner s base (headAt s at) (siblings n inner fuel s base)) done)
       go true p = p
       go false p = tt
 

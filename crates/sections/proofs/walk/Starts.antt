@@ -32,20 +32,20 @@ siblings-end n inner zero s base at h = refl
 siblings-end n inner (suc fuel) s base at h = rw (le-ltb at (length s) h)
 
 siblings-here : (n : ℕ) (inner : List ℕ → ℕ → Trace) (fuel : ℕ) (s : List ℕ) (base at : ℕ) → at < length s
-    → siblings n inner (suc fuel) s base at ≡ meet n inner s base at (headAt s at) (siblings n inner fuel s base)
+    → siblings n inner (suc fuel) s base at ≡ meet n inner s base (headAt s at) (siblings n inner fuel s base)
 unfolding siblings
 siblings-here n inner fuel s base at h = rw (lt-ltb at (length s) h)
 
 -- the walk at a start depends on what follows only through the starts after it
 pub meet-same : (n : ℕ) (inner : List ℕ → ℕ → Trace) (s : List ℕ) (base at : ℕ) (rest rest′ : ℕ → Trace) (h : Head) → headAt s at ≡ h
-    → ((next : ℕ) → at + 4 ≤ next → rest next ≡ rest′ next) → meet n inner s base at h rest ≡ meet n inner s base at h rest′
+    → ((next : ℕ) → at + 4 ≤ next → rest next ≡ rest′ next) → meet n inner s base h rest ≡ meet n inner s base h rest′
 unfolding meet afterPadding
 meet-same n inner s base at rest rest′ (Fault m) p q = refl
-meet-same n inner s base at rest rest′ (Closed t e) p q =
+meet-same n inner s base at rest rest′ (Closed t first e) p q =
     let w = closed-within s at p in
     let next : rest (aligned e) ≡ rest′ (aligned e) = q (aligned e) (omega arith) in
     rw next
-meet-same n inner s base at rest rest′ (Open t f e) p q =
+meet-same n inner s base at rest rest′ (Open t first f e) p q =
     let w = open-within s at p in
     let next : rest (aligned e) ≡ rest′ (aligned e) = q (aligned e) (omega arith) in
     rw next
@@ -84,7 +84,7 @@ module _ (n : ℕ) (s : List ℕ) (base at : ℕ) where
   unfolding walkFrom
   walk-end h = siblings-end n (deeper n) (length s) s base at h
 
-  pub walk-here : at < length s → walkFrom n s base at ≡ meet n (deeper n) s base at (headAt s at) (walkFrom n s base)
+  pub walk-here : at < length s → walkFrom n s base at ≡ meet n (deeper n) s base (headAt s at) (walkFrom n s base)
   unfolding walkFrom
   walk-here h =
       siblings-same n (deeper n) (length s) (suc (length s)) s base at (omega arith) (omega arith)
@@ -94,19 +94,19 @@ module _ (n : ℕ) (s : List ℕ) (base at : ℕ) where
   unfolding meet
   walk-fault h e = walk-here h ∙ rw e
 
-  pub walk-closed : {t e : ℕ} → at < length s → headAt s at ≡ Closed t e
-      → walkFrom n s base at ≡ section t (base + (at + 4)) (base + e) (afterPadding s e (walkFrom n s base))
+  pub walk-closed : {t first e : ℕ} → at < length s → headAt s at ≡ Closed t first e
+      → walkFrom n s base at ≡ section t (base + first) (base + e) (afterPadding s e (walkFrom n s base))
   unfolding meet
   walk-closed h e = walk-here h ∙ rw e
 
 -- a holder to be searched on the eighth level, and on one above it
-pub walk-205 : (s : List ℕ) (base at : ℕ) {t f e : ℕ} → at < length s → headAt s at ≡ Open t f e → walkFrom 0 s base at ≡ fault 205
+pub walk-205 : (s : List ℕ) (base at : ℕ) {t first f e : ℕ} → at < length s → headAt s at ≡ Open t first f e → walkFrom 0 s base at ≡ fault 205
 unfolding meet
 walk-205 s base at h e = walk-here 0 s base at h ∙ rw e
 
-pub walk-open : (n : ℕ) (s : List ℕ) (base at : ℕ) {t f e : ℕ} → at < length s → headAt s at ≡ Open t f e
+pub walk-open : (n : ℕ) (s : List ℕ) (base at : ℕ) {t first f e : ℕ} → at < length s → headAt s at ≡ Open t first f e
     → walkFrom (suc n) s base at
-    ≡ section t (base + (at + 4)) (base + e) (andThen (walk n (part f e s) (base + f)) (afterPadding s e (walkFrom (suc n) s base)))
+    ≡ section t (base + first) (base + e) (andThen (walk n (part f e s) (base + f)) (afterPadding s e (walkFrom (suc n) s base)))
 unfolding meet
 walk-open n s base at h e = walk-here (suc n) s base at h ∙ rw (e, ne-eqb (suc n) 0 (λ z. omega arith))
 
@@ -117,7 +117,7 @@ below W (suc n) = λ l b. W n l b 0
 
 abbrev pub Law : (ℕ → List ℕ → ℕ → ℕ → Trace) → Type 0
 Law W = (n : ℕ) (s : List ℕ) (base at : ℕ)
-    → W n s base at ≡ cond (ltb at (length s)) (meet n (below W n) s base at (headAt s at) (W n s base)) done
+    → W n s base at ≡ cond (ltb at (length s)) (meet n (below W n) s base (headAt s at) (W n s base)) done
 
 below-walk : (n : ℕ) → below walkFrom n ≡ deeper n
 below-walk zero = refl
@@ -127,7 +127,7 @@ pub walk-law : Law walkFrom
 walk-law n s base at = go (ltb at (length s)) refl
   where
     go : (b : Bool) → ltb at (length s) ≡ b
-        → walkFrom n s base at ≡ cond (ltb at (length s)) (meet n (below walkFrom n) s base at (headAt s at) (walkFrom n s base)) done
+        → walkFrom n s base at ≡ cond (ltb at (length s)) (meet n (below walkFrom n) s base (headAt s at) (walkFrom n s base)) done
     go true e =
         rw (e, below-walk n) (walk-here n s base at (ltb-true at (length s) e))
     go false e = rw e (walk-end n s base at (ltb-false at (length s) e))

@@ -34,8 +34,8 @@ module _ {n : ℕ} {s : List ℕ} {base w : ℕ} {x a : Seek} {at : ℕ} (g : Go
     turn-fault h p = p ∙ sym (g .same ∙ ap (run w a) (walk-fault n s base at here h))
 
     -- b: after the section itself
-    module _ {t e first end : ℕ} {b : Seek} (h : headAt s at ≡ Closed t e) (v : b ≡ visited w a t first end) (f : first ≡ base + (at + 4)) (l : end ≡ base + e)
-        {next : ℕ} (up : next ≡ aligned e) where
+    module _ {t first e shown end : ℕ} {b : Seek} (h : headAt s at ≡ Closed t first e) (v : b ≡ visited w a t shown end) (f : shown ≡ base + first)
+        (l : end ≡ base + e) {next : ℕ} (up : next ≡ aligned e) where
       turn-closed-any : x ≡ run w b (afterPadding s e (walkFrom n s base))
       unfolding run
       turn-closed-any = rw (v, f, l) (g .same ∙ ap (run w a) (walk-closed n s base at here h))
@@ -47,20 +47,20 @@ module _ {n : ℕ} {s : List ℕ} {base w : ℕ} {x a : Seek} {at : ℕ} (g : Go
       unfolding run
       turn-closed-207 z p = p ∙ sym (rw (padding-207 s e (walkFrom n s base) (rw up at z)) at turn-closed-any)
 
-    pub turn-205 : {t f e : ℕ} {r : Seek} → headAt s at ≡ Open t f e → n ≡ 0 → r ≡ halted 205 a → r ≡ x
+    pub turn-205 : {t first f e : ℕ} {r : Seek} → headAt s at ≡ Open t first f e → n ≡ 0 → r ≡ halted 205 a → r ≡ x
     unfolding run
     turn-205 h z p = p ∙ sym (rw (z, walk-205 s base at here h) at (g .same))
 
     -- b: after the holder itself; d: after its children, run from b
-    module _ {t f e first end k inner : ℕ} {b d : Seek} (h : headAt s at ≡ Open t f e) (deep : n ≡ 0 → ⊥) (v : b ≡ visited w a t first end)
-        (fb : first ≡ base + (at + 4)) (l : end ≡ base + e) (children : d ≡ run w b (walk k (part f e s) inner)) (below : k ≡ n - 1) (ib : inner ≡ base + f) where
+    module _ {t first f e shown end k inner : ℕ} {b d : Seek} (h : headAt s at ≡ Open t first f e) (deep : n ≡ 0 → ⊥) (v : b ≡ visited w a t shown end)
+        (fb : shown ≡ base + first) (l : end ≡ base + e) (children : d ≡ run w b (walk k (part f e s) inner)) (below : k ≡ n - 1) (ib : inner ≡ base + f) where
       turn-open : x ≡ run w d (afterPadding s e (walkFrom n s base))
       unfolding run
       turn-open =
           let above : suc (n - 1) ≡ n = omega arith in
           let after = afterPadding s e (walkFrom n s base) in
           let inside = walk (n - 1) (part f e s) (base + f) in
-          let met = visited w a t (base + (at + 4)) (base + e) in
+          let met = visited w a t (base + first) (base + e) in
           let same : d ≡ run w met inside = rw (v, below, ib, fb, l) at children in
           g .same
           ∙ ap (run w a) (rw above at (walk-open (n - 1) s base at here h))

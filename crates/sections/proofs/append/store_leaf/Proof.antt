@@ -60,8 +60,9 @@ returns c =
     let entry = aligned .before .before .before in
     let from = aligned .aligned .result + 4 in
     let end = aligned .aligned .result + (4 + length (now (entry .args .body))) in
-    leaf-stored _ _ _ _ _ _ _ _ _ (end - from) (padded .store .ensures) (sized .store2 .ensures) (typed .store3 .ensures) (copied .copy .ensures .1)
-    (aligned .aligned .ensures) (search needs) (omega arith) (omega (arith, entry .pre))
+    leaf-stored _ _ _ _ _ _ _ _ _ _ _ _ from (end - from) (padded .store .ensures) (sized .store2 .ensures) (typed .store3 .ensures)
+    (copied .copy .ensures .1) (aligned .aligned .ensures) (search needs) (search needs) (search needs) (search needs) (search needs)
+    (search needs) (search needs)
 
 pub store-leaf-spec : {M : Type 1} → statement M
 store-leaf-spec =

@@ -22,12 +22,15 @@ cast-offset c = search needs
 returns-2 : tie.Need-returns-2
 returns-2 c =
     let offset = c .before in
-    guid-204-low (offset .before .before .before .pre) (search needs) (offset .u16-at .ensures) (search needs)
+    guid-204-low (offset .before .before .before .pre) (search needs) (offset .u16-at .ensures) (search needs) (search needs)
 
 returns-3 : tie.Need-returns-3
 returns-3 c =
     let offset = c .before .before in
-    guid-204-high (offset .before .before .before .pre) (search needs) (offset .u16-at .ensures) (search needs) (search needs)
+    guid-204-high (offset .before .before .before .pre) (search needs) (offset .u16-at .ensures) (search needs) (search needs) (search needs)
+
+add-first : tie.Need-add-first
+add-first c = search needs
 
 add-from : tie.Need-add-from
 add-from c = search needs
@@ -45,15 +48,15 @@ returns-4 : tie.Need-returns-4
 returns-4 c =
     let attributes = c .before in
     let offset = attributes .before .before .before in
-    guid-packed (offset .before .before .before .pre) (search needs) (offset .u16-at .ensures) (search needs) (search needs)
-    (rw (attributes .u16-at2 .ensures) at (c .if4 .taken))
+    guid-packed (offset .before .before .before .pre) (search needs) (offset .u16-at .ensures) (search needs) (search needs) (search needs)
+    (attributes .u16-at2 .ensures) (search needs) (search needs) (search needs) (search needs)
 
 returns-5 : tie.Need-returns-5
 returns-5 c =
     let attributes = c .before in
     let offset = attributes .before .before .before in
-    guid-open (offset .before .before .before .pre) (search needs) (offset .u16-at .ensures) (search needs) (search needs)
-    (rw (attributes .u16-at2 .ensures) at (c .if4 .left))
+    guid-open (offset .before .before .before .pre) (search needs) (offset .u16-at .ensures) (search needs) (search needs) (search needs)
+    (attributes .u16-at2 .ensures) (search needs) (search needs) (search needs) (search needs) (search needs)
 
 pub holder-spec : {M : Type 1} → statement M
 holder-spec =
@@ -66,6 +69,7 @@ holder-spec =
     cast-offset
     returns-2
     returns-3
+    add-first
     add-from
     add-end
     add-u16-at-2

@@ -28,13 +28,17 @@ type-info-requires c κs = search needs
 returns-2 : tie.Need-returns-2
 returns-2 c =
     let known = c .before in
-    head-202 _ _ (known .before .byte-at .ensures) (known .before .before .u24-at .ensures .0) (known .type-info .ensures) (search needs) (search needs)
+    head-202 _ _ (known .before .byte-at .ensures) (search needs) (known .before .before .u24-at .ensures .0) (search needs)
+    (known .type-info .ensures) (search needs) (search needs)
 
 returns-3 : tie.Need-returns-3
 returns-3 c =
     let known = c .before .before in
-    head-203 _ _ (known .before .byte-at .ensures) (known .before .before .u24-at .ensures .0) (known .type-info .ensures)
-    (search needs) (search needs) (search needs)
+    head-203 _ _ (known .before .byte-at .ensures) (search needs) (known .before .before .u24-at .ensures .0) (search needs)
+    (known .type-info .ensures) (search needs) (search needs) (search needs)
+
+add-first : tie.Need-add-first
+add-first c = search needs
 
 add-end : tie.Need-add-end
 add-end c = search needs
@@ -45,8 +49,8 @@ enum-told c = search needs
 holder-requires : tie.Need-holder-requires
 holder-requires c κs =
     let known = c .before .before .before .before in
-    head-lies _ _ (known .before .byte-at .ensures) (known .before .before .u24-at .ensures .0) (known .type-info .ensures)
-    (rw (c .enum-told .given .1)) (search needs) (search needs) (search needs)
+    head-lies _ _ (known .before .byte-at .ensures) (search needs) (known .before .before .u24-at .ensures .0) (search needs)
+    (known .type-info .ensures) (rw (c .enum-told .given .1)) (search needs) (search needs) (search needs)
 
 enum-told-2 : tie.Need-enum-told-2
 enum-told-2 c = search needs
@@ -60,14 +64,14 @@ returns-4 c = search needs
 returns-5 : tie.Need-returns-5
 returns-5 c =
     let known = c .before .before .before .before in
-    head-leaf _ _ (known .before .byte-at .ensures) (known .before .before .u24-at .ensures .0) (known .type-info .ensures)
-    (rw (c .enum-told2 .given .1)) (search needs) (search needs) (search needs)
+    head-leaf _ _ (known .before .byte-at .ensures) (search needs) (known .before .before .u24-at .ensures .0) (search needs)
+    (known .type-info .ensures) (rw (c .enum-told2 .given .1)) (search needs) (search needs) (search needs) (search needs) (search needs)
 
 returns-6 : tie.Need-returns-6
 returns-6 c =
     let known = c .before .before .before .before in
-    head-leaf _ _ (known .before .byte-at .ensures) (known .before .before .u24-at .ensures .0) (known .type-info .ensures)
-    (rw (c .enum-told3 .given .1)) (search needs) (search needs) (search needs)
+    head-leaf _ _ (known .before .byte-at .ensures) (search needs) (known .before .before .u24-at .ensures .0) (search needs)
+    (known .type-info .ensures) (rw (c .enum-told3 .given .1)) (search needs) (search needs) (search needs) (search needs) (search needs)
 
 pub read-head-spec : {M : Type 1} → statement M
 read-head-spec =
@@ -82,6 +86,7 @@ read-head-spec =
     type-info-requires
     returns-2
     returns-3
+    add-first
     add-end
     enum-told
     holder-requires

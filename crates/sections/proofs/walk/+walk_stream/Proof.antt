@@ -80,11 +80,11 @@ returns t c =
 enum-known-head-2 : (t : ℕ) → lts.Need-enum-known-head-2 (R t) (At t) own.Post Inv μ
 enum-known-head-2 t c = search needs
 
-add-first : (t : ℕ) → lts.Need-add-first (R t) (At t) own.Post Inv μ
-add-first t c = search needs
-
 add-visit : (t : ℕ) → lts.Need-add-visit (R t) (At t) own.Post Inv μ
-add-visit t c = search needs
+add-visit t c =
+    let closed = c .before in
+    let w = closed-within _ _ (sym (closed .before .before .read-head .ensures) ∙ closed .head2 .given .1) in
+    omega arith
 
 add-visit-2 : (t : ℕ) → lts.Need-add-visit-2 (R t) (At t) own.Post Inv μ
 add-visit-2 t c =
@@ -150,11 +150,11 @@ returns-3 t c =
     let turn = opened .before .before .before in
     turn-205 (turn .before .loop .inv) (search needs) (sym (opened .before .before .read-head .ensures) ∙ opened .head3 .given .1) (search needs) (c .halt3 .ensures)
 
-add-first-2 : (t : ℕ) → lts.Need-add-first-2 (R t) (At t) own.Post Inv μ
-add-first-2 t c = search needs
-
 add-visit-3 : (t : ℕ) → lts.Need-add-visit-3 (R t) (At t) own.Post Inv μ
-add-visit-3 t c = search needs
+add-visit-3 t c =
+    let opened = c .before .before in
+    let w = open-within _ _ (sym (opened .before .before .read-head .ensures) ∙ opened .head3 .given .1) in
+    omega arith
 
 add-visit-4 : (t : ℕ) → lts.Need-add-visit-4 (R t) (At t) own.Post Inv μ
 add-visit-4 t c =
@@ -270,7 +270,6 @@ pub +walk-stream-spec : {M : Type 1} → statement M
     (halt-requires t)
     (returns t)
     (enum-known-head-2 t)
-    (add-first t)
     (add-visit t)
     (add-visit-2 t)
     (visit-requires t)
@@ -284,7 +283,6 @@ pub +walk-stream-spec : {M : Type 1} → statement M
     (enum-known-head-3 t)
     (halt-requires-3 t)
     (returns-3 t)
-    (add-first-2 t)
     (add-visit-3 t)
     (add-visit-4 t)
     (visit-requires-2 t)
