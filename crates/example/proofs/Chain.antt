@@ -36,23 +36,3 @@ module _ (v mask : List ℕ) (base block : ℕ) (opening : Opening) (st : State)
     unfolding putMask unlessAnswered openingAnswer erasedAnswer
     mask-written told a written w = rw (← o, success-told, ← e, told, ← w)
 
--- ---- the theorems
-
--- a byte written over an erased one is the byte itself
-written-erased : (a x : ℕ) → x < 256 → writtenByte a (erasedByte a) x ≡ x
-unfolding writtenByte erasedByte
-written-erased a x h = go (flag a stickyWrite) (flag a erasePolarity)
-  where
-    go : (sticky ones : Bool) → cond sticky (cond ones (bitAnd (cond ones 0xFF 0x00) x) (bitOr (cond ones 0xFF 0x00) x)) x ≡ x
-    go true true = and-comm 255 x ∙ and-mask x 8 ∙ mod-eq-of-lt h
-    go true false = or-zero-l x
-    go false ones = refl
-
--- the list of one block: it names that block, and it is good where the block is there
-one-block : (n block : ℕ) → goodList n (block ∷ 1 ∷ endOfList ∷ []) ≡ true → (block ≡ endOfList → ⊥) → block < n
-unfolding goodList
-one-block n block g other = go (leb (block + 1) n) refl (rw (ne-eqb block endOfList other) at g)
-  where
-    go : (t : Bool) → leb (block + 1) n ≡ t → (t && true) ≡ true → block < n
-    go true e g = omega (arith, leb-true (block + 1) n e)
-    go false e g = absurd (true≢false (sym g))
