@@ -9,7 +9,7 @@ use borrow.Author.Tests.{lt-ltb, le-ltb, ltb-true, ltb-false}
 use lib.Dec.{ltb}
 use lib.ListN.{length, getD, drop, length-drop}
 use Rattle.common.proofs.Lists.{drop-two}
-use Rattle.volume.specs.BlockMap.{blocks, bytes}
+use Rattle.volume.specs.BlockMap.{blocks, bytes, maxLength}
 use Rattle.block_service.specs.Blocks.{placeFrom, place, firstByte}
 use Rattle.block_service.specs.declared.blocks.Place.the-variants.{At, Missing}
 use Rattle.volume.proofs.block_map.Words.{blocks-entry, bytes-entry}
@@ -199,9 +199,9 @@ module _ (m : List ℕ) (b e s l r n : ℕ) (h : place m b ≡ At e s l r) where
   unfolding place
   found-left p = omega (arith, rw (sub-zero (e + 1)) at (walk-blocks m 0 0 b e s l r h))
 
-  pub walk-asks : b + n ≤ blocks m → bytes m ≤ 16777216
+  pub walk-asks : b + n ≤ blocks m → bytes m ≤ maxLength
       → (2 * e + 1 < length m)
-      × ((n ≤ r + blocks (drop (2 * (e + 1)) m)) × (s + firstByte (r ∷ getD m (2 * e + 1) 0 ∷ drop (2 * (e + 1)) m) n ≤ 16777216))
+      × ((n ≤ r + blocks (drop (2 * (e + 1)) m)) × (s + firstByte (r ∷ getD m (2 * e + 1) 0 ∷ drop (2 * (e + 1)) m) n ≤ maxLength))
   walk-asks p q = (found-entry .0, (found-left p, omega (arith, found-walk, firstByte-le m (b + n))))
 
 -- a later block starts later
