@@ -46,11 +46,13 @@ pub(crate) fn find_block(words: &[u32], block: u64) -> Place
         let count = wide(words[2 * entry]) as usize;
         let len = wide(words[2 * entry + 1]) as usize;
         if rest < count {
+            let first_byte = start + rest * len;
+            let left = count - rest;
             break Place::At {
                 entry,
-                start: start + rest * len,
+                start: first_byte,
                 len,
-                left: count - rest,
+                left,
             };
         }
         start += count * len;

@@ -88,7 +88,8 @@ fn erase_run(words: &[u32], volume: &mut [u8], first: u64, count: u64, value: u8
     requires { ⌜ bytes (now words) ≤ maxLength ⌝ }
     requires { ⌜ bytes (now words) ≤ length (now volume) ⌝ }
     requires { ⌜ (0 < count) × (first + count ≤ blocks (now words)) ⌝ }
-    ensures { λ _. ⌜ now (volume .exit) ≡ edit (λ i old. cond (leb first (blockAt (now (words .entry)) i) && ltb (blockAt (now (words .entry)) i) (first + count)) value old) 0 (now (volume .entry)) ⌝ }
+    ensures { λ _. ⌜ now (volume .exit)
+        ≡ edit (λ i old. cond (leb first (blockAt (now (words .entry)) i) && ltb (blockAt (now (words .entry)) i) (first + count)) value old) 0 (now (volume .entry)) ⌝ }
 {
     let found = find_block(words, first);
     let Place::At {

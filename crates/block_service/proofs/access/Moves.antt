@@ -6,9 +6,11 @@ use mathlib.Core.List.{List, _++_}
 use native.Mathlib.Nat.{add-sub-cancel-left}
 use native.Mathlib.Omega.{arith}
 use borrow.Author.Tests.{leb-true, ltb-true}
+use lib.Bits.{bitAnd, bitOr}
 use lib.Dec.{leb, ltb}
 use lib.ListN.{length, getD, take, drop, length-drop}
 use lib.Seq.{length-take-le, take-all, getD-take}
+use Rattle.volume.specs.Attributes.{flag, stickyWrite, erasePolarity}
 use Rattle.common.specs.Lists.{edit}
 use Rattle.block_service.specs.Access.{countMoved, writtenByte, changedByte, writeChange, keep, store}
 use Rattle.common.proofs.Edit.{within, edit-part, edit-same, edit-keep}
@@ -73,3 +75,22 @@ write-none a at n v new e =
 pub moves : (s l o n k m : ℕ) → k ≡ countMoved l o n → s + l ≤ m → (k ≤ n) × (0 < k → s + o + k ≤ m)
 unfolding countMoved
 moves s l o n k m e h = (omega arith, λ p. omega arith)
+
+-- no byte is counted where the offset reaches the block's end
+pub count-none : (len offset n : ℕ) → len ≤ offset → countMoved len offset n ≡ 0
+unfolding countMoved
+count-none len offset n h = omega arith
+
+-- the write rule's three cases
+module _ (a old new : ℕ) where
+  pub written-plain : flag a stickyWrite ≡ false → writtenByte a old new ≡ new
+  unfolding writtenByte
+  written-plain e = rw e
+
+  pub written-and : flag a stickyWrite ≡ true → flag a erasePolarity ≡ true → writtenByte a old new ≡ bitAnd old new
+  unfolding writtenByte
+  written-and e p = rw (e, p)
+
+  pub written-or : flag a stickyWrite ≡ true → flag a erasePolarity ≡ false → writtenByte a old new ≡ bitOr old new
+  unfolding writtenByte
+  written-or e p = rw (e, p)

@@ -51,11 +51,11 @@ firstByte-le (c ∷ l ∷ rest) b =
     omega (arith, firstByte-le rest (b - c), mul-le-mul-right {m = min b c} {n = c} l (omega arith))
 
 -- the block of a byte within the first entry, and of one past it
-pub blockAt-here : (c l : ℕ) (rest : List ℕ) (i : ℕ) → i < c * l → blockAt (c ∷ l ∷ rest) i ≡ i / l
+blockAt-here : (c l : ℕ) (rest : List ℕ) (i : ℕ) → i < c * l → blockAt (c ∷ l ∷ rest) i ≡ i / l
 unfolding blockAt
 blockAt-here c l rest i h = rw (lt-ltb i (c * l) h)
 
-pub blockAt-past : (c l : ℕ) (rest : List ℕ) (i : ℕ) → c * l ≤ i → blockAt (c ∷ l ∷ rest) i ≡ c + blockAt rest (i - c * l)
+blockAt-past : (c l : ℕ) (rest : List ℕ) (i : ℕ) → c * l ≤ i → blockAt (c ∷ l ∷ rest) i ≡ c + blockAt rest (i - c * l)
 unfolding blockAt
 blockAt-past c l rest i h = rw (le-ltb i (c * l) h)
 
@@ -65,7 +65,7 @@ positive c zero i h = absurd (omega arith)
 positive c (suc l) i h = omega arith
 
 -- the bytes before block b's first are those of the blocks before b
-pub blockAt-before : (m : List ℕ) (i b : ℕ) → i < firstByte m b → blockAt m i < b
+blockAt-before : (m : List ℕ) (i b : ℕ) → i < firstByte m b → blockAt m i < b
 unfolding firstByte
 blockAt-before [] i b h = absurd (omega arith)
 blockAt-before (c ∷ []) i b h = absurd (omega arith)
@@ -119,7 +119,7 @@ before-firstByte (c ∷ l ∷ rest) i b g h = go (ltb i (c * l)) refl (ltb c b) 
         let w = rw (blockAt-past c l rest i p) at h in
         absurd (omega arith)
 
-pub not-before : (m : List ℕ) (i b : ℕ) → b ≤ blocks m → firstByte m b ≤ i → b ≤ blockAt m i
+not-before : (m : List ℕ) (i b : ℕ) → b ≤ blocks m → firstByte m b ≤ i → b ≤ blockAt m i
 not-before m i b g h = go (ltb (blockAt m i) b) refl
   where
     go : (t : Bool) → ltb (blockAt m i) b ≡ t → b ≤ blockAt m i
@@ -147,7 +147,7 @@ missing (At e s l r) = false
 missing Missing = true
 
 -- a block is missing exactly where the number of blocks does not pass its number
-pub place-missing : (m : List ℕ) (e s b : ℕ) → missing (placeFrom m e s b) ≡ leb (blocks m) b
+place-missing : (m : List ℕ) (e s b : ℕ) → missing (placeFrom m e s b) ≡ leb (blocks m) b
 unfolding placeFrom missing blocks
 place-missing [] e s b = sym (le-leb 0 b (omega arith))
 place-missing (c ∷ []) e s b = sym (le-leb 0 b (omega arith))
@@ -169,7 +169,7 @@ place-missing (c ∷ l ∷ rest) e s b = go (ltb b c) refl (place-missing rest (
             sym (lt-leb (c + blocks rest) b (omega arith))
 
 -- a block's place starts at its first byte
-pub place-start : (m : List ℕ) (e s b : ℕ) → b < blocks m → startOf (placeFrom m e s b) ≡ s + firstByte m b
+place-start : (m : List ℕ) (e s b : ℕ) → b < blocks m → startOf (placeFrom m e s b) ≡ s + firstByte m b
 unfolding placeFrom startOf blocks
 place-start [] e s b h = absurd (omega arith)
 place-start (c ∷ []) e s b h = absurd (omega arith)
@@ -184,7 +184,7 @@ place-start (c ∷ l ∷ rest) e s b h = go (ltb b c) refl (place-start rest (e 
         rw (firstByte-past c l rest b p) (omega arith)
 
 -- and ends at the next block's
-pub place-end : (m : List ℕ) (e s b : ℕ) → b < blocks m
+place-end : (m : List ℕ) (e s b : ℕ) → b < blocks m
     → startOf (placeFrom m e s b) + lengthOf (placeFrom m e s b) ≡ s + firstByte m (b + 1)
 unfolding placeFrom startOf lengthOf blocks
 place-end [] e s b h = absurd (omega arith)

@@ -9,7 +9,7 @@ use borrow.Author.Tests.{lt-ltb, le-ltb, ltb-true, ltb-false}
 use lib.Dec.{ltb}
 use lib.ListN.{length, getD, drop, length-drop}
 use Rattle.common.proofs.Lists.{drop-two}
-use Rattle.volume.specs.BlockMap.{blocks, bytes}
+use Rattle.volume.specs.BlockMap.{blocks, bytes, maxLength}
 use Rattle.block_service.specs.Blocks.{placeFrom, place, firstByte}
 use Rattle.block_service.specs.declared.blocks.Place.the-variants.{At, Missing}
 use Rattle.volume.proofs.block_map.Words.{blocks-entry, bytes-entry}
@@ -99,7 +99,7 @@ walk-end m e s b e' s' l' r' n h = go (found m e s b e' s' l' r' h) (ltb n r') r
         rw (z, firstByte-past c l rest (b + n) (omega arith), y) (omega arith)
 
 -- the number of blocks, by those before a block that was found, the rest of its entry and the entries after it
-pub walk-blocks : (m : List ℕ) (e s b e' s' l' r' : ℕ) → placeFrom m e s b ≡ At e' s' l' r'
+walk-blocks : (m : List ℕ) (e s b e' s' l' r' : ℕ) → placeFrom m e s b ≡ At e' s' l' r'
     → blocks m ≡ b + (r' + blocks (drop (2 * (e' + 1 - e)) m))
 unfolding blocks
 walk-blocks m e s b e' s' l' r' h = go (found m e s b e' s' l' r' h)
@@ -115,7 +115,7 @@ walk-blocks m e s b e' s' l' r' h = go (found m e s b e' s' l' r' h)
         rw z (omega arith)
 
 -- the entry of a block that was found is one of the map's, and its length word is the block's length
-pub walk-entry : (m : List ℕ) (e s b e' s' l' r' : ℕ) → placeFrom m e s b ≡ At e' s' l' r'
+walk-entry : (m : List ℕ) (e s b e' s' l' r' : ℕ) → placeFrom m e s b ≡ At e' s' l' r'
     → (2 * (e' - e) + 1 < length m) × (getD m (2 * (e' - e) + 1) 0 ≡ l')
 walk-entry m e s b e' s' l' r' h = go (found m e s b e' s' l' r' h)
   where
@@ -187,7 +187,7 @@ walk-more w j h = go (ltb (2 * j + 1) (length w)) refl
 
 -- the same from the map's start: what a walk from a block that was found needs, and where it ends
 module _ (m : List ℕ) (b e s l r n : ℕ) (h : place m b ≡ At e s l r) where
-  pub found-entry : (2 * e + 1 < length m) × (getD m (2 * e + 1) 0 ≡ l)
+  found-entry : (2 * e + 1 < length m) × (getD m (2 * e + 1) 0 ≡ l)
   unfolding place
   found-entry = rw (sub-zero e) at (walk-entry m 0 0 b e s l r h)
 
@@ -195,13 +195,13 @@ module _ (m : List ℕ) (b e s l r n : ℕ) (h : place m b ≡ At e s l r) where
   unfolding place
   found-walk = rw (found-entry .1) (sym (rw (sub-zero (e + 1), zero-add (firstByte m (b + n))) at (walk-end m 0 0 b e s l r n h)))
 
-  pub found-left : b + n ≤ blocks m → n ≤ r + blocks (drop (2 * (e + 1)) m)
+  found-left : b + n ≤ blocks m → n ≤ r + blocks (drop (2 * (e + 1)) m)
   unfolding place
   found-left p = omega (arith, rw (sub-zero (e + 1)) at (walk-blocks m 0 0 b e s l r h))
 
-  pub walk-asks : b + n ≤ blocks m → bytes m ≤ 16777216
+  pub walk-asks : b + n ≤ blocks m → bytes m ≤ maxLength
       → (2 * e + 1 < length m)
-      × ((n ≤ r + blocks (drop (2 * (e + 1)) m)) × (s + firstByte (r ∷ getD m (2 * e + 1) 0 ∷ drop (2 * (e + 1)) m) n ≤ 16777216))
+      × ((n ≤ r + blocks (drop (2 * (e + 1)) m)) × (s + firstByte (r ∷ getD m (2 * e + 1) 0 ∷ drop (2 * (e + 1)) m) n ≤ maxLength))
   walk-asks p q = (found-entry .0, (found-left p, omega (arith, found-walk, firstByte-le m (b + n))))
 
 -- a later block starts later

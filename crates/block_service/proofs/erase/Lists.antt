@@ -26,7 +26,7 @@ module _ (w : List ℕ) (i : ℕ) (h : i < length w) (e : getD w i 0 ≡ endOfLi
       go [] = refl
       go (c ∷ r) = refl
 
-  pub ends-names : (b : ℕ) → names (drop i w) b ≡ false
+  ends-names : (b : ℕ) → names (drop i w) b ≡ false
   unfolding names
   ends-names b = rw (drop-cons w i 0 h, e) (go (drop (suc i) w))
     where
@@ -77,7 +77,7 @@ module _ (w : List ℕ) (i f c : ℕ) (h : i + 1 < length w) (ef : f ≡ getD w 
       go false p false q k = absurd (let z : _≡_ {A = ℕ} 0 1 = cc in omega arith)
 
   -- a pair names its own blocks, and the words after it name theirs
-  pub pair-names : (b : ℕ) → names (drop i w) b ≡ (leb f b && ltb b (f + c) || names (drop (i + 2) w) b)
+  pair-names : (b : ℕ) → names (drop i w) b ≡ (leb f b && ltb b (f + c) || names (drop (i + 2) w) b)
   unfolding names
   pair-names b = rw (pair-words, ne-eqb f endOfList e)
 
@@ -93,7 +93,7 @@ good-even w i n h e g = go (ltb (i + 1) (length w)) refl
         absurd (let z : _≡_ {A = ℕ} 0 1 = cc in omega arith)
 
 -- the erase of a run of blocks, and of the blocks of a list, each to the value x
-abbrev pub runErased : List ℕ → ℕ → ℕ → ℕ → ℕ → ℕ → ℕ
+abbrev runErased : List ℕ → ℕ → ℕ → ℕ → ℕ → ℕ → ℕ
 runErased m f c x i old = cond (leb f (blockAt m i) && ltb (blockAt m i) (f + c)) x old
 
 abbrev pub listErased : List ℕ → List ℕ → ℕ → ℕ → ℕ → ℕ

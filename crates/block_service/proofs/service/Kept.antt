@@ -1,34 +1,33 @@
--- What holds of all the calls: bytes past the state's length never change; every byte below the length lies in exactly one block; what the number that
--- block size answers counts; and a lawful state stays lawful.
-use Prim.Native.Nat.{ℕ, _+_, _-_, _*_, _/_, _≤_, _<_}
-use mathlib.Core.Path.{_≡_, refl, sym, ap, _∙_}
+-- What holds of all the calls: which things none of them changes, and that a lawful state stays lawful.
+use Prim.Native.Nat.{ℕ, _/_, _≤_, _<_}
 use mathlib.Core.Bool.{false}
-use mathlib.Core.List.{List, [], _∷_}
+use mathlib.Core.List.{List}
 use mathlib.Core.Option.{Option, none, some}
+use mathlib.Core.Path.{_≡_, refl, sym, ap, _∙_}
 use native.Mathlib.Omega.{arith}
 use borrow.Author.Tests.{leb-false}
-use lib.Dec.{T, leb}
 use lib.ListN.{length, getD}
-use Rattle.common.specs.Answers.{refused, success}
+use Rattle.common.specs.Answers.{refused}
 use Rattle.common.specs.Refusals.{row, firstRefusal, any}
+use Rattle.common.proofs.Edit.{length-edit}
 use Rattle.common.proofs.Refusals.{row-passed}
-use Rattle.block_service.specs.Access.{countMoved}
 use Rattle.volume.specs.Attributes.{attributesFault, baseFault}
 use Rattle.volume.specs.BlockMap.{blocks, bytes}
-use Rattle.block_service.specs.Blocks.{place, lengthOf, leftOf, inBlock, blockAt}
-use Rattle.block_service.specs.Service.{Call, getAttributes, setAttributes, getPhysicalAddress, getBlockSize, read, write, eraseBlocks, Effect, reply, setTo, copyOut, change, refusals, effect, decide, Result, withAttributes, perform, bufferOf, step}
-use Rattle.block_service.specs.Settings.{changesFixed, settingRefusals}
-use Rattle.volume.specs.State.{stateWith, mapOf, unlawful}
+use Rattle.volume.specs.State.{mapOf, unlawful, stateWith}
 use Rattle.volume.specs.declared.state.State.{State}
+use Rattle.volume.proofs.state.Lawful.{lawful}
+use Rattle.block_service.specs.Access.{countMoved}
+use Rattle.block_service.specs.Blocks.{place}
+use Rattle.block_service.specs.Service.{Call, getAttributes, setAttributes, getPhysicalAddress, getBlockSize, read, write, eraseBlocks, refusals, effect, Result}
+use Rattle.block_service.specs.Service.{perform, bufferOf, step, decide, Effect, reply, setTo, copyOut, change, withAttributes}
+use Rattle.block_service.specs.Settings.{changesFixed, settingRefusals}
 use Rattle.block_service.specs.declared.blocks.Place.{Place}
 use Rattle.block_service.specs.declared.blocks.Place.the-variants.{At, Missing}
-use Rattle.common.proofs.Edit.{length-edit}
-use Rattle.volume.proofs.state.Lawful.{lawful}
+use Rattle.block_service.proofs.blocks.Places.{found-within, place-lost, past-every-block}
+use Rattle.block_service.proofs.service.Erasing.{erase-other}
+use Rattle.block_service.proofs.service.Moving.{write-other}
+use Rattle.block_service.proofs.service.Steps.{refused-step, allowed-step, effect-answers, passed-write, passed-erase}
 use Rattle.block_service.proofs.settings.Rules.{fixed-same}
-use Rattle.block_service.proofs.blocks.Places.{in-some-block, in-one-block, found-within, place-lost, past-every-block}
-use Rattle.block_service.proofs.blocks.Runs.{run-places, run-ends}
-use Rattle.block_service.proofs.service.Steps.{refused-step, allowed-step}
-use Rattle.block_service.proofs.service.Effects.{effect-answers, passed-success, passed-write, passed-erase, erase-other, write-other}
 
 -- ---- what no call changes
 
@@ -60,6 +59,20 @@ length-kept st v c = go (decide st (length v) c)
     go (setTo next a) = refl
     go (copyOut at n a) = refl
     go (change f a) = length-edit _ 0 v
+
+-- what is answered, and the state afterwards, hang on no byte of the volume
+pub follows-state : (st : State) (v w : List ℕ) (c : Call) → length v ≡ length w
+    → (step st v c .answer ≡ step st w c .answer) × (step st v c .state ≡ step st w c .state)
+unfolding step perform
+follows-state st v w c e = rw e (go (decide st (length w) c))
+  where
+    go : (x : Effect)
+        → (perform st v (bufferOf c) x .answer ≡ perform st w (bufferOf c) x .answer)
+        × (perform st v (bufferOf c) x .state ≡ perform st w (bufferOf c) x .state)
+    go (reply a) = (refl, refl)
+    go (setTo next a) = (refl, refl)
+    go (copyOut at n a) = (refl, refl)
+    go (change f a) = (refl, refl)
 
 -- a call that passed its table is not refused
 passed-answers : (st : State) (v : List ℕ) (c : Call) → firstRefusal (refusals st (length v) c) ≡ none → (n : ℕ) → step st v c .answer ≡ refused n → ⊥
@@ -95,42 +108,6 @@ past-length-kept st v c i h = go (firstRefusal (refusals st (length v) c)) refl
     go : (o : Option ℕ) → firstRefusal (refusals st (length v) c) ≡ o → getD (step st v c .volume) i 0 ≡ getD v i 0
     go (some n) e = ap (λ (r : Result). getD (r .volume) i 0) (sym (refused-step st v c n e))
     go none e = allowed-past st v c i h e
-
--- ---- blocks
-
--- every byte below a lawful state's length lies in exactly one block
-pub one-block : (st : State) → unlawful st ≡ false → (i : ℕ) → i < st .length
-    → (b : ℕ) × (T (inBlock (mapOf st) b i)) × ((a : ℕ) → T (inBlock (mapOf st) a i) → a ≡ b)
-one-block st ok i h =
-    let t = in-some-block (mapOf st) i (omega (arith, lawful st ok .total)) in
-    (blockAt (mapOf st) i, t, λ a k. in-one-block (mapOf st) a (blockAt (mapOf st) i) i k t)
-
--- what block size answers: the block's length l, and a number r of blocks
-module _ (st : State) (v : List ℕ) (b l r : ℕ) (h : step st v (getBlockSize b) .answer ≡ success (l ∷ r ∷ [])) where
-  -- the block is there, in an entry e, with that length and r blocks to the entry's end
-  pub size-place : (e : ℕ) × (s : ℕ) × (place (mapOf st) b ≡ At e s l r)
-  unfolding refusals perform effect lengthOf leftOf
-  size-place =
-      let e = passed-success st v (getBlockSize b) (l ∷ r ∷ []) h in
-      let d = row-passed (row (leb (blocks (mapOf st)) b) 2) [] (row-passed (row (unlawful st) 111) _ e .1) in
-      go (place (mapOf st) b) refl (leb-false _ _ (d .0)) (ap (λ (x : Result). x .answer) (allowed-step st v (getBlockSize b) e) ∙ h)
-    where
-      go : (p : Place) → place (mapOf st) b ≡ p → b < blocks (mapOf st) → success (lengthOf (place (mapOf st) b) ∷ leftOf (place (mapOf st) b) ∷ []) ≡ success (l ∷ r ∷ [])
-          → (e : ℕ) × (s : ℕ) × (place (mapOf st) b ≡ At e s l r)
-      go (At e s l' r') at k q =
-          let q' = rw at at q in
-          let a : l' ≡ l = cc in
-          let c : r' ≡ r = cc in
-          (e, s, at ∙ rw (a, c))
-      go Missing at k q = absurd (omega (arith, place-lost (mapOf st) b at))
-
--- the r blocks from b on lie one after the other in b's entry, all of length l; the block after them, if there is one, is in a later entry
-pub run-in-entry : (m : List ℕ) (b e s l r : ℕ) → place m b ≡ At e s l r
-    → ((k : ℕ) → k < r → place m (b + k) ≡ At e (s + k * l) l (r - k))
-    × ((e' s' l' r' : ℕ) → place m (b + r) ≡ At e' s' l' r' → e < e')
-unfolding place
-run-in-entry m b e s l r h =
-    ((λ k p. run-places m 0 0 b e s l r k h p), λ e' s' l' r' q. run-ends m 0 0 b e s l r e' s' l' r' h q)
 
 -- ---- a lawful state stays lawful
 

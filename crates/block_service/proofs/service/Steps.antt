@@ -1,26 +1,29 @@
--- Laws of a step of the block service: what a call leaves that is refused, and what one leaves that is not.
-use Prim.Native.Nat.{ℕ, _+_, _≤_}
-use mathlib.Core.Path.{_≡_, refl, ap, _∙_}
+-- Laws of a step of the block service: what a call leaves that is refused, what one leaves that is not, and what a table that was passed says.
+use Prim.Native.Nat.{ℕ, _+_, _≤_, _<_}
 use mathlib.Core.Bool.{Bool, true, false, not, cond}
 use mathlib.Core.List.{List, [], _∷_, _++_}
-use mathlib.Core.Option.{none, some}
-use borrow.Author.Tests.{ltb-false, not-false}
-use lib.Dec.{ltb}
+use mathlib.Core.Option.{Option, none, some}
+use mathlib.Core.Path.{_≡_, refl, sym, ap, _∙_}
+use native.Mathlib.Omega.{arith}
+use borrow.Author.Tests.{lt-ltb, le-ltb, le-leb, ltb-false, not-false}
+use lib.Dec.{leb, ltb, eqb}
 use lib.ListN.{length, take, drop}
+use Rattle.common.specs.Answers.{refused, success, short, Answer}
 use Rattle.common.specs.Lists.{edit}
-use Rattle.common.specs.Answers.{Answer, refused, success}
-use Rattle.common.specs.Refusals.{Row, row, firstRefusal}
-use Rattle.block_service.specs.Service.{Call, lentRefusals, refusals, effect, decide, result, perform, bufferOf, step, read, write, eraseBlocks, getAttributes, setAttributes, getPhysicalAddress, getBlockSize, moveAnswer}
-use Rattle.block_service.specs.Access.{countMoved, changedByte, writeChange, erase, keep, erasedByte}
-use Rattle.volume.specs.Attributes.{flag}
-use Rattle.block_service.specs.Blocks.{place, startOf, lengthOf, leftOf, blockAt}
-use Rattle.block_service.specs.Erase.{names, eraseChange}
-use Rattle.volume.specs.State.{mapOf, unlawful}
-use Rattle.block_service.specs.declared.blocks.Place.the-variants.{At}
-use Rattle.volume.specs.declared.state.State.{State}
+use Rattle.common.specs.Refusals.{row, firstRefusal, Row}
 use Rattle.common.proofs.Edit.{edit-same}
-use Rattle.common.proofs.Refusals.{row-passed, then-passed, then-refused, row-applies, row-passes, no-row}
+use Rattle.common.proofs.Refusals.{row-passed, front-passed, then-passed, then-refused, row-applies, row-passes, no-row}
+use Rattle.volume.specs.Attributes.{flag, readStatus, writeStatus, memoryMapped}
+use Rattle.volume.specs.BlockMap.{blocks}
+use Rattle.volume.specs.State.{mapOf, unlawful}
+use Rattle.volume.specs.declared.state.State.{State}
 use Rattle.volume.proofs.state.Lawful.{Lawful, lawful}
+use Rattle.block_service.specs.Access.{countMoved, erasedByte, keep, erase, writeChange, changedByte}
+use Rattle.block_service.specs.Blocks.{place, startOf, lengthOf, blockAt, leftOf}
+use Rattle.block_service.specs.Erase.{goodList, names, eraseChange}
+use Rattle.block_service.specs.Service.{Call, getAttributes, setAttributes, getPhysicalAddress, getBlockSize, read, write, eraseBlocks, lentRefusals, refusals}
+use Rattle.block_service.specs.Service.{effect, moveAnswer, Result, result, perform, bufferOf, step, decide}
+use Rattle.block_service.specs.declared.blocks.Place.the-variants.{At}
 
 -- a refused call answers its number and leaves everything as it was
 pub refused-step : (st : State) (v : List ℕ) (c : Call) (n : ℕ) → firstRefusal (refusals st (length v) c) ≡ some n
@@ -59,9 +62,25 @@ begun st n status e =
     let c = row-passed (row (not (flag (st .attributes) status)) 15) _ (b .1) in
     record { lawful = lawful st (a .0); long = ltb-false n (st .length) (b .0); on = not-false _ (c .0) }
 
+-- and where they pass
+pub lent-passes : (st : State) (n status : ℕ) → unlawful st ≡ false → st .length ≤ n → flag (st .attributes) status ≡ true
+    → firstRefusal (lentRefusals st n status) ≡ none
+unfolding lentRefusals
+lent-passes st n status ok long on = row-passes _ _ _ _ ok (row-passes _ _ _ _ (le-ltb _ _ long) (row-passes _ _ _ _ (ap not on) no-row))
+
+-- where they do not: 5 of a lawful state, and 15 where the volume is lent whole
+lent-5 : (st : State) (n status : ℕ) → unlawful st ≡ false → n < st .length → firstRefusal (lentRefusals st n status) ≡ some 5
+unfolding lentRefusals
+lent-5 st n status ok h = row-passes _ _ _ _ ok (row-applies _ _ _ (lt-ltb _ _ h))
+
+lent-15 : (st : State) (n status : ℕ) → unlawful st ≡ false → st .length ≤ n → flag (st .attributes) status ≡ false
+    → firstRefusal (lentRefusals st n status) ≡ some 15
+unfolding lentRefusals
+lent-15 st n status ok long off = row-passes _ _ _ _ ok (row-passes _ _ _ _ (le-ltb _ _ long) (row-applies _ _ _ (ap not off)))
+
 -- the whole table of such a call, with its last row's test: the first three refuse; they pass and the last row refuses; or all pass
 module _ (st : State) (n status : ℕ) (t : Bool) where
-  abbrev pub lentRows : List Row
+  abbrev lentRows : List Row
   lentRows = lentRefusals st n status ++ (row t 2 ∷ [])
 
   pub lent-first : (m : ℕ) → firstRefusal (lentRefusals st n status) ≡ some m → firstRefusal lentRows ≡ some m
@@ -114,3 +133,138 @@ erase-step st v list x after n ex ea =
         pick : (t : Bool) → cond t (erasedByte (st .attributes)) old ≡ changedByte (st .attributes) (cond t erase keep) old
         pick true = refl
         pick false = refl
+
+-- a move answers success or short
+move-answers : (k n m : ℕ) → moveAnswer k n ≡ refused m → ⊥
+unfolding moveAnswer
+move-answers k n m = go (eqb k n)
+  where
+    go : (t : Bool) → cond t (success (k ∷ [])) (short (k ∷ [])) ≡ refused m → ⊥
+    go true e = let z : _≡_ {A = ℕ} 0 1 = cc in omega arith
+    go false e = let z : _≡_ {A = ℕ} 0 1 = cc in omega arith
+
+-- a call's effect refuses nothing
+pub effect-answers : (st : State) (v buffer : List ℕ) (c : Call) (n : ℕ) → perform st v buffer (effect st c) .answer ≡ refused n → ⊥
+unfolding perform effect
+effect-answers st v buffer getAttributes n e = let z : _≡_ {A = ℕ} 0 1 = cc in omega arith
+effect-answers st v buffer (setAttributes new) n e = let z : _≡_ {A = ℕ} 0 1 = cc in omega arith
+effect-answers st v buffer getPhysicalAddress n e = let z : _≡_ {A = ℕ} 0 1 = cc in omega arith
+effect-answers st v buffer (getBlockSize b) n e = let z : _≡_ {A = ℕ} 0 1 = cc in omega arith
+effect-answers st v buffer (read b o data') n e = move-answers _ _ n e
+effect-answers st v buffer (write b o new) n e = move-answers _ _ n e
+effect-answers st v buffer (eraseBlocks list) n e = let z : _≡_ {A = ℕ} 0 1 = cc in omega arith
+
+-- a refused call changes nothing: the state, the volume and the buffer are as before
+pub refused-changes-nothing : (st : State) (v : List ℕ) (c : Call) (n : ℕ) → step st v c .answer ≡ refused n
+    → step st v c ≡ result (refused n) st v (bufferOf c)
+refused-changes-nothing st v c n h = go (firstRefusal (refusals st (length v) c)) refl
+  where
+    go : (o : Option ℕ) → firstRefusal (refusals st (length v) c) ≡ o → step st v c ≡ result (refused n) st v (bufferOf c)
+    go none e = absurd (effect-answers st v (bufferOf c) c n (ap (λ (r : Result). r .answer) (allowed-step st v c e) ∙ h))
+    go (some m) e =
+        let p = refused-step st v c m e in
+        let q : refused m ≡ refused n = ap (λ (r : Result). r .answer) p ∙ h in
+        let k : m ≡ n = cc in
+        sym p ∙ ap (λ (x : ℕ). result (refused x) st v (bufferOf c)) k
+
+-- a call that is not refused passed its whole table
+pub passed : (st : State) (v : List ℕ) (c : Call) → ((n : ℕ) → step st v c .answer ≡ refused n → ⊥)
+    → firstRefusal (refusals st (length v) c) ≡ none
+passed st v c h = go (firstRefusal (refusals st (length v) c)) refl
+  where
+    go : (o : Option ℕ) → firstRefusal (refusals st (length v) c) ≡ o → o ≡ none
+    go none e = refl
+    go (some m) e = absurd (h m (sym (ap (λ (r : Result). r .answer) (refused-step st v c m e))))
+
+pub passed-success : (st : State) (v : List ℕ) (c : Call) (values : List ℕ) → step st v c .answer ≡ success values
+    → firstRefusal (refusals st (length v) c) ≡ none
+passed-success st v c values h = passed st v c (λ n e. let z : _≡_ {A = ℕ} 0 1 = cc in omega arith)
+
+-- what a passed table says of a call that is lent the volume
+pub record Passed (st : State) (n : ℕ) (t : Bool) : Type 0 where
+  pub lawful : Lawful st
+  pub long : st .length ≤ n
+  pub last : t ≡ false
+
+passed-rows : (st : State) (n status : ℕ) (t : Bool) → firstRefusal (lentRows st n status t) ≡ none → Passed st n t
+passed-rows st n status t e =
+    let f = front-passed (lentRefusals st n status) _ e in
+    let b = begun st n status f in
+    let d = row-passed (row t 2) _ (sym (then-passed (lentRefusals st n status) _ f) ∙ e) in
+    record { lawful = b .lawful; long = b .long; last = d .0 }
+
+pub passed-read : (st : State) (n b o : ℕ) (buffer : List ℕ) → firstRefusal (refusals st n (read b o buffer)) ≡ none
+    → Passed st n (leb (blocks (mapOf st)) b)
+unfolding refusals
+passed-read st n b o buffer e = passed-rows st n readStatus _ e
+
+pub passed-write : (st : State) (n b o : ℕ) (new : List ℕ) → firstRefusal (refusals st n (write b o new)) ≡ none
+    → Passed st n (leb (blocks (mapOf st)) b)
+unfolding refusals
+passed-write st n b o new e = passed-rows st n writeStatus _ e
+
+pub passed-erase : (st : State) (n : ℕ) (list : List ℕ) → firstRefusal (refusals st n (eraseBlocks list)) ≡ none
+    → Passed st n (not (goodList (blocks (mapOf st)) list))
+unfolding refusals
+passed-erase st n list e = passed-rows st n writeStatus _ e
+
+-- ---- the order of the refusals of the calls that are lent the volume
+
+-- 5 after 111
+pub order-5 : (st : State) (v : List ℕ) → unlawful st ≡ false → length v < st .length
+    → ((b o : ℕ) (buffer : List ℕ) → step st v (read b o buffer) ≡ result (refused 5) st v buffer)
+    × ((b o : ℕ) (new : List ℕ) → step st v (write b o new) ≡ result (refused 5) st v [])
+    × ((list : List ℕ) → step st v (eraseBlocks list) ≡ result (refused 5) st v [])
+unfolding refusals bufferOf
+order-5 st v ok h = (
+  (λ b o buffer. sym (refused-step st v (read b o buffer) 5 (lent-first st _ readStatus _ 5 (lent-5 st _ readStatus ok h)))),
+  (λ b o new. sym (refused-step st v (write b o new) 5 (lent-first st _ writeStatus _ 5 (lent-5 st _ writeStatus ok h)))),
+  λ list. sym (refused-step st v (eraseBlocks list) 5 (lent-first st _ writeStatus _ 5 (lent-5 st _ writeStatus ok h))),
+)
+
+-- 15 after 5
+module _ (st : State) (v : List ℕ) (ok : unlawful st ≡ false) (long : st .length ≤ length v) where
+  pub order-15-read : flag (st .attributes) readStatus ≡ false
+      → (b o : ℕ) (buffer : List ℕ) → step st v (read b o buffer) ≡ result (refused 15) st v buffer
+  unfolding refusals bufferOf
+  order-15-read off b o buffer =
+      sym (refused-step st v (read b o buffer) 15 (lent-first st _ readStatus _ 15 (lent-15 st _ readStatus ok long off)))
+
+  pub order-15-write : flag (st .attributes) writeStatus ≡ false
+      → ((b o : ℕ) (new : List ℕ) → step st v (write b o new) ≡ result (refused 15) st v [])
+      × ((list : List ℕ) → step st v (eraseBlocks list) ≡ result (refused 15) st v [])
+  unfolding refusals bufferOf
+  order-15-write off = (
+    (λ b o new. sym (refused-step st v (write b o new) 15 (lent-first st _ writeStatus _ 15 (lent-15 st _ writeStatus ok long off)))),
+    λ list. sym (refused-step st v (eraseBlocks list) 15 (lent-first st _ writeStatus _ 15 (lent-15 st _ writeStatus ok long off))),
+  )
+
+  -- 2 after 15
+  pub order-2-read : flag (st .attributes) readStatus ≡ true
+      → (b o : ℕ) (buffer : List ℕ) → blocks (mapOf st) ≤ b → step st v (read b o buffer) ≡ result (refused 2) st v buffer
+  unfolding refusals bufferOf
+  order-2-read on b o buffer h =
+      sym (refused-step st v (read b o buffer) 2 (lent-2 st _ readStatus _ (lent-passes st _ readStatus ok long on) (le-leb _ _ h)))
+
+  pub order-2-write : flag (st .attributes) writeStatus ≡ true
+      → ((b o : ℕ) (new : List ℕ) → blocks (mapOf st) ≤ b → step st v (write b o new) ≡ result (refused 2) st v [])
+      × ((list : List ℕ) → goodList (blocks (mapOf st)) list ≡ false → step st v (eraseBlocks list) ≡ result (refused 2) st v [])
+  unfolding refusals bufferOf
+  order-2-write on = (
+    (λ b o new h. sym (refused-step st v (write b o new) 2 (lent-2 st _ writeStatus _ (lent-passes st _ writeStatus ok long on) (le-leb _ _ h)))),
+    λ list h. sym (refused-step st v (eraseBlocks list) 2 (lent-2 st _ writeStatus _ (lent-passes st _ writeStatus ok long on) (ap not h))),
+  )
+
+-- ---- the other calls' refusals after 111
+
+-- 3: the base address of a volume that is not memory mapped
+pub order-3 : (st : State) (v : List ℕ) → unlawful st ≡ false → flag (st .attributes) memoryMapped ≡ false
+    → step st v getPhysicalAddress ≡ result (refused 3) st v []
+unfolding refusals bufferOf
+order-3 st v ok off = sym (refused-step st v getPhysicalAddress 3 (row-passes _ _ _ _ ok (row-applies _ _ _ (ap not off))))
+
+-- 2: the size of no such block
+pub order-2-size : (st : State) (v : List ℕ) (b : ℕ) → unlawful st ≡ false → blocks (mapOf st) ≤ b
+    → step st v (getBlockSize b) ≡ result (refused 2) st v []
+unfolding refusals bufferOf
+order-2-size st v b ok h = sym (refused-step st v (getBlockSize b) 2 (row-passes _ _ _ _ ok (row-applies _ _ _ (le-leb _ _ h))))

@@ -1,10 +1,10 @@
 -- The capabilities that a change of settings needs, status by status, as the code asks for them; and which bits the fixed ones are.
-use Prim.Native.Nat.{ℕ, zero, suc, _*_, _/_, _%_, _^_}
-use mathlib.Core.Path.{_≡_, refl, sym}
+use Prim.Native.Nat.{ℕ, zero, suc, _+_, _*_, _/_, _%_, _^_, _≤_}
+use mathlib.Core.Path.{_≡_, refl, sym, _∙_}
 use mathlib.Core.Bool.{Bool, true, false, not, _&&_, _||_, or-assoc, and-false}
 use native.Mathlib.Nat.{div-one, div-div-eq-div-mul}
 use native.Mathlib.Omega.{arith}
-use borrow.Author.Tests.{eqb-true, not-false}
+use borrow.Author.Tests.{eq-eqb, eqb-true, not-false}
 use lib.Dec.{eqb}
 use Rattle.common.specs.Refusals.{any}
 use Rattle.common.proofs.Refusals.{any-passed}
@@ -12,7 +12,7 @@ use Rattle.volume.specs.Attributes.{flag, readDisabledCap, readEnabledCap, read
 use Rattle.block_service.specs.Settings.{changesFixed, lacksCapability, raises, clears}
 
 -- a status changes without the capability to raise it or to clear it
-abbrev pub lacking : Bool → Bool → Bool → Bool → Bool
+abbrev lacking : Bool → Bool → Bool → Bool → Bool
 lacking was wanted mayRaise mayClear = not was && wanted && not mayRaise || was && not wanted && not mayClear
 
 module _ (old new : ℕ) where
@@ -100,3 +100,66 @@ fixed-bits old new e k two five seven = bits k two five seven (fixed-same old ne
     bits (suc (suc (suc (suc (suc (suc (suc (suc k)))))))) p q r f =
         let e : 2 ^ suc (suc (suc (suc (suc (suc (suc (suc k))))))) ≡ 256 * 2 ^ k = omega arith in
         rw (e, ← div-div-eq-div-mul old 256 (2 ^ k), ← div-div-eq-div-mul new 256 (2 ^ k), f .high)
+
+-- numbers that agree at every bit are equal
+bits-same : (n a b : ℕ) → a ≤ n → b ≤ n → ((k : ℕ) → a / 2 ^ k % 2 ≡ b / 2 ^ k % 2) → a ≡ b
+bits-same zero a b p q h = omega arith
+bits-same (suc n) a b p q h =
+    let low : a % 2 ≡ b % 2 = rw (div-one, div-one) at (h 0) in
+    let half : a / 2 ≡ b / 2 = bits-same n (a / 2) (b / 2) (omega arith) (omega arith) (λ k. shift a k ∙ h (suc k) ∙ sym (shift b k)) in
+    omega arith
+  where
+    shift : (x k : ℕ) → x / 2 / 2 ^ k % 2 ≡ x / 2 ^ suc k % 2
+    shift x k = let e : 2 ^ suc k ≡ 2 * 2 ^ k = omega arith in rw (e, div-div-eq-div-mul x 2 (2 ^ k))
+
+-- numbers that agree at their two lowest bits agree modulo 4
+two-bits : (x y : ℕ) → x % 2 ≡ y % 2 → x / 2 % 2 ≡ y / 2 % 2 → x % 4 ≡ y % 4
+two-bits x y a b = omega arith
+
+-- two settings that agree at every bit but 4, 0x20 and 0x80 change no fixed bit
+pub bits-fixed : (old new : ℕ) → ((k : ℕ) → (k ≡ 2 → ⊥) → (k ≡ 5 → ⊥) → (k ≡ 7 → ⊥) → old / 2 ^ k % 2 ≡ new / 2 ^ k % 2)
+    → changesFixed old new ≡ false
+unfolding changesFixed any
+bits-fixed old new h =
+    let b0 : old % 2 ≡ new % 2 = rw (div-one, div-one) at (at 0 (λ e. omega arith) (λ e. omega arith) (λ e. omega arith)) in
+    let b1 : old / 2 % 2 ≡ new / 2 % 2 = at 1 (λ e. omega arith) (λ e. omega arith) (λ e. omega arith) in
+    let b3 : old / 8 % 2 ≡ new / 8 % 2 = at 3 (λ e. omega arith) (λ e. omega arith) (λ e. omega arith) in
+    let b4 : old / 16 % 2 ≡ new / 16 % 2 = at 4 (λ e. omega arith) (λ e. omega arith) (λ e. omega arith) in
+    let b6 : old / 64 % 2 ≡ new / 64 % 2 = at 6 (λ e. omega arith) (λ e. omega arith) (λ e. omega arith) in
+    let low : old % 4 ≡ new % 4 = two-bits old new b0 b1 in
+    let mid : old / 8 % 4 ≡ new / 8 % 4 = two-bits (old / 8) (new / 8) b3 (rw (div-div-eq-div-mul old 8 2, div-div-eq-div-mul new 8 2) b4) in
+    let high : old / 256 ≡ new / 256 = bits-same (old / 256 + new / 256) (old / 256) (new / 256) (omega arith) (omega arith) above in
+    rw (eq-eqb _ _ low, eq-eqb _ _ mid, eq-eqb _ _ b6, eq-eqb _ _ high)
+  where
+    at : (k : ℕ) → (k ≡ 2 → ⊥) → (k ≡ 5 → ⊥) → (k ≡ 7 → ⊥) → old / 2 ^ k % 2 ≡ new / 2 ^ k % 2
+    at = h
+
+    above : (k : ℕ) → old / 256 / 2 ^ k % 2 ≡ new / 256 / 2 ^ k % 2
+    above k =
+        let e : 2 ^ suc (suc (suc (suc (suc (suc (suc (suc k))))))) ≡ 256 * 2 ^ k = omega arith in
+        rw (div-div-eq-div-mul old 256 (2 ^ k), div-div-eq-div-mul new 256 (2 ^ k), ← e)
+        (h (suc (suc (suc (suc (suc (suc (suc (suc k)))))))) (λ z. omega arith) (λ z. omega arith) (λ z. omega arith))
+
+-- settings that stay as they are break no rule
+pub fixed-none : (a : ℕ) → changesFixed a a ≡ false
+fixed-none a = bits-fixed a a (λ k p q r. refl)
+
+pub locked-none : (a : ℕ) → (flag a lockStatus && not (eqb a a)) ≡ false
+locked-none a = rw (eq-eqb a a refl) (and-false (flag a lockStatus))
+
+pub lacks-none : (a : ℕ) → lacksCapability a a ≡ false
+unfolding lacksCapability any raises clears
+lacks-none a =
+    go (flag a readStatus) (flag a writeStatus) (flag a lockStatus)
+    (not (flag a readEnabledCap)) (not (flag a readDisabledCap)) (not (flag a writeEnabledCap)) (not (flag a writeDisabledCap)) (not (flag a lockCap))
+  where
+    go : (r w l a b c d e : Bool)
+        → (not r && r && a || (r && not r && b || (not w && w && c || (w && not w && d || (not l && l && e || false))))) ≡ false
+    go true true true a b c d e = refl
+    go true true false a b c d e = refl
+    go true false true a b c d e = refl
+    go true false false a b c d e = refl
+    go false true true a b c d e = refl
+    go false true false a b c d e = refl
+    go false false true a b c d e = refl
+    go false false false a b c d e = refl

@@ -5,14 +5,14 @@ use native.Mathlib.Omega.{arith}
 use borrow.Author.Needs.{needs}
 use denote.Ref.{now}
 use lib.ListN.{length, drop}
-use Rattle.volume.specs.BlockMap.{blocks}
+use Rattle.volume.specs.BlockMap.{blocks, maxBlocks}
 use Rattle.block_service.proofs.blocks.Runs.{entry-blocks, count-end}
 use Rattle.block_service.proofs.blocks.block_count.Statement.{statement}
 use Rattle.block_service.proofs.blocks.block_count.Tie as tie
 
 abbrev Inv-loop : tie.InvT-loop
 Inv-loop words entries count₀ entry₀ count entry =
-    (entry ≤ entries) × (entries ≡ length words / 2) × (blocks words ≤ 65536) × (count + blocks (drop (2 * entry) words) ≡ blocks words)
+    (entry ≤ entries) × (entries ≡ length words / 2) × (blocks words ≤ maxBlocks) × (count + blocks (drop (2 * entry) words) ≡ blocks words)
 
 abbrev μ-loop : tie.MeasureT-loop
 μ-loop words entries count₀ entry₀ count entry = entries - entry
@@ -43,11 +43,12 @@ loop-less c = search needs
 
 loop-again : tie.Need-loop-again Inv-loop μ-loop
 loop-again c =
-    let l = c .before .before .before .loop in
-    omega (arith, entry-blocks (now (c .before .before .before .before .before .args .words)) (l .entry) (c .wide .result) _ (search needs) (c .wide .ensures .0) refl)
+    let turn = c .before .before .before in
+    let words = now (turn .before .before .args .words) in
+    omega (arith, entry-blocks words (turn .loop .entry) (c .wide .result) _ (search needs) (c .wide .ensures .0) refl)
 
 returns : tie.Need-returns Inv-loop μ-loop
-returns c = omega (arith, count-end (now (c .before .before .before .args .words)) (c .before .loop .entry) (search needs))
+returns c = let last = c .before in omega (arith, count-end (now (last .before .before .args .words)) (last .loop .entry) (search needs))
 
 pub block-count-spec : {M : Type 1} → statement M
 block-count-spec =

@@ -1,33 +1,66 @@
--- `block_service::blocks::find_block` meets its contract.
-use Prim.Native.Nat.{_+_, _-_, _*_, _/_, _≤_}
+-- `block_service::blocks::find_block` meets its contract: the search from the entry at hand on is the whole search.
+use Prim.Native.Nat.{ℕ, _+_, _-_, _*_, _/_, _≤_, _<_}
 use mathlib.Core.Path.{refl, _≡_, _∙_}
+use mathlib.Core.List.{List}
 use native.Mathlib.Nat.{mul-le-mul-right}
 use native.Mathlib.Omega.{arith}
 use borrow.Author.Needs.{needs}
 use denote.Ref.{now}
 use lib.ListN.{length, drop}
-use Rattle.volume.specs.BlockMap.{bytes}
+use Rattle.volume.specs.BlockMap.{bytes, maxLength}
 use Rattle.block_service.specs.Blocks.{place, placeFrom}
+use Rattle.block_service.specs.declared.blocks.Place.the-variants.{At}
 use Rattle.block_service.proofs.blocks.Runs.{find-hit, find-next, entry-bytes, find-end}
 use Rattle.block_service.proofs.blocks.find_block.Statement.{statement}
 use Rattle.block_service.proofs.blocks.find_block.Tie as tie
 
 abbrev Inv-loop : tie.InvT-loop
 Inv-loop words block entries entry₀ start₀ rest₀ entry start rest =
-    (entry ≤ entries) × (entries ≡ length words / 2) × (start + bytes (drop (2 * entry) words) ≡ bytes words) × (bytes words ≤ 16777216)
+    (entry ≤ entries) × (entries ≡ length words / 2) × (start + bytes (drop (2 * entry) words) ≡ bytes words) × (bytes words ≤ maxLength)
     × (placeFrom (drop (2 * entry) words) entry start rest ≡ place words block)
 
 abbrev μ-loop : tie.MeasureT-loop
 μ-loop words block entries entry₀ start₀ rest₀ entry start rest = entries - entry
 
--- the entry at hand, and what its blocks take
-known : (c : tie.After-wide2 Inv-loop μ-loop)
-    → (bytes (drop (2 * c .before .before .before .before .before .loop .entry) (now (c .before .before .before .before .before .before .before .args .words)))
-    ≡ c .before .before .wide .result * c .wide2 .result
-    + bytes (drop (2 * (c .before .before .before .before .before .loop .entry + 1)) (now (c .before .before .before .before .before .before .before .args .words))))
-known c =
-    entry-bytes _ (c .before .before .before .before .before .loop .entry) (c .before .before .wide .result) (c .wide2 .result) (search needs)
-    (c .before .before .wide .ensures .0) (c .wide2 .ensures .0)
+-- a turn with the entry's two words in hand
+module _ (c : tie.After-wide2 Inv-loop μ-loop) where
+  abbrev turn : tie.At-loop Inv-loop μ-loop
+  turn = c .before .before .before .before .before
+
+  abbrev words : List ℕ
+  words = now (turn .before .before .args .words)
+
+  abbrev entry : ℕ
+  entry = turn .loop .entry
+
+  abbrev count : ℕ
+  count = c .before .before .wide .result
+
+  abbrev len : ℕ
+  len = c .wide2 .result
+
+  inside : 2 * entry + 1 < length words
+  inside = search needs
+
+  -- what the entry's blocks take, of which the first `rest` are passed
+  known : bytes (drop (2 * entry) words) ≡ count * len + bytes (drop (2 * (entry + 1)) words)
+  known = entry-bytes words entry count len inside (c .before .before .wide .ensures .0) (c .wide2 .ensures .0)
+
+  part : turn .loop .rest < count → turn .loop .rest * len ≤ count * len
+  part h = mul-le-mul-right {m = turn .loop .rest} {n = count} len (omega arith)
+
+  hit : turn .loop .rest < count
+      → At entry (turn .loop .start + turn .loop .rest * len) len (count - turn .loop .rest) ≡ place words (turn .before .before .args .block)
+  hit h =
+      find-hit words entry count len inside (c .before .before .wide .ensures .0) (c .wide2 .ensures .0) (turn .loop .start) (turn .loop .rest) h
+      ∙ turn .loop .inv .4
+
+  next : count ≤ turn .loop .rest
+      → placeFrom (drop (2 * (entry + 1)) words) (entry + 1) (turn .loop .start + count * len) (turn .loop .rest - count)
+      ≡ place words (turn .before .before .args .block)
+  next h =
+      find-next words entry count len inside (c .before .before .wide .ensures .0) (c .wide2 .ensures .0) (turn .loop .start) (turn .loop .rest) h
+      ∙ turn .loop .inv .4
 
 loop-holds : tie.Need-loop-holds Inv-loop μ-loop
 unfolding place
@@ -60,14 +93,14 @@ shared-slice-read-wide-2 c = search needs
 wide-requires-2 : tie.Need-wide-requires-2 Inv-loop μ-loop
 wide-requires-2 c κs = search needs
 
-mul-t19 : tie.Need-mul-t19 Inv-loop μ-loop
-mul-t19 c = omega (arith, known (c .before), mul-le-mul-right {m = c .before .before .before .before .before .before .loop .rest} {n = c .before .before .before .wide .result} (c .before .wide2 .result) (search needs))
+mul-first-byte : tie.Need-mul-first-byte Inv-loop μ-loop
+mul-first-byte c = let read = c .before in omega (arith, known read, part read (search needs))
 
-add-t20 : tie.Need-add-t20 Inv-loop μ-loop
-add-t20 c = omega (arith, known (c .before), mul-le-mul-right {m = c .before .before .before .before .before .before .loop .rest} {n = c .before .before .before .wide .result} (c .before .wide2 .result) (search needs))
+add-first-byte : tie.Need-add-first-byte Inv-loop μ-loop
+add-first-byte c = let read = c .before in omega (arith, known read, part read (search needs))
 
-sub-t21 : tie.Need-sub-t21 Inv-loop μ-loop
-sub-t21 c = search needs
+sub-left : tie.Need-sub-left Inv-loop μ-loop
+sub-left c = search needs
 
 mul-start : tie.Need-mul-start Inv-loop μ-loop
 mul-start c = omega (arith, known (c .before))
@@ -82,22 +115,13 @@ loop-less : tie.Need-loop-less Inv-loop μ-loop
 loop-less c = search needs
 
 loop-again : tie.Need-loop-again Inv-loop μ-loop
-loop-again c =
-    let l = c .before .before .before .before .before .before .loop in (
-      search needs,
-      search needs,
-      omega (arith, known (c .before)),
-      search needs,
-      find-next _ (l .entry) (c .before .before .before .wide .result) (c .before .wide2 .result) (search needs) (c .before .before .before .wide .ensures .0) (c .before .wide2 .ensures .0) (l .start) (l .rest) (search needs) ∙ l .inv .4,
-    )
+loop-again c = let read = c .before in (search needs, search needs, omega (arith, known read), search needs, next read (search needs))
 
 returns : tie.Need-returns Inv-loop μ-loop
-returns c = find-end _ (c .before .loop .entry) _ _ (search needs) ∙ c .before .loop .inv .4
+returns c = let turn = c .before in find-end _ (turn .loop .entry) _ _ (search needs) ∙ turn .loop .inv .4
 
 returns-2 : tie.Need-returns-2 Inv-loop μ-loop
-returns-2 c =
-    let l = c .before .before .before .before .before .before .loop in
-    find-hit _ (l .entry) (c .before .before .before .wide .result) (c .before .wide2 .result) (search needs) (c .before .before .before .wide .ensures .0) (c .before .wide2 .ensures .0) (l .start) (l .rest) (search needs) ∙ l .inv .4
+returns-2 c = hit (c .before) (search needs)
 
 pub find-block-spec : {M : Type 1} → statement M
 find-block-spec =
@@ -115,9 +139,9 @@ find-block-spec =
     mul-wide-4
     shared-slice-read-wide-2
     wide-requires-2
-    mul-t19
-    add-t20
-    sub-t21
+    mul-first-byte
+    add-first-byte
+    sub-left
     mul-start
     add-start
     add-entry

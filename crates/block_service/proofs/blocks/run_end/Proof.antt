@@ -1,4 +1,4 @@
--- `block_service::blocks::run_end` meets its contract.
+-- `block_service::blocks::run_end` meets its contract: where the rest of the run ends is where the whole does.
 use Prim.Native.Nat.{ℕ, _+_, _-_, _*_, _≤_, _<_}
 use mathlib.Core.Path.{_≡_, refl, _∙_}
 use mathlib.Core.List.{List, _∷_}
@@ -6,7 +6,7 @@ use native.Mathlib.Omega.{arith}
 use borrow.Author.Needs.{needs}
 use denote.Ref.{now}
 use lib.ListN.{length, getD, drop}
-use Rattle.volume.specs.BlockMap.{blocks}
+use Rattle.volume.specs.BlockMap.{blocks, maxLength}
 use Rattle.block_service.specs.Blocks.{firstByte}
 use Rattle.block_service.proofs.blocks.Runs.{entry-blocks, walk-stop, walk-on, walk-next, walk-more}
 use Rattle.block_service.proofs.blocks.run_end.Statement.{statement}
@@ -20,7 +20,7 @@ abbrev Inv-loop : tie.InvT-loop
 Inv-loop words entry start left count i₀ at₀ here₀ rest₀ i at here rest =
     (2 * i + 1 < length words) × (rest ≤ here + blocks (drop (2 * (i + 1)) words))
     × (ends words i at here rest ≡ ends words entry start left count)
-    × (ends words entry start left count ≤ 16777216)
+    × (ends words entry start left count ≤ maxLength)
 
 abbrev μ-loop : tie.MeasureT-loop
 μ-loop words entry start left count i₀ at₀ here₀ rest₀ i at here rest = length words - i
@@ -43,35 +43,36 @@ shared-slice-read-wide c = search needs
 wide-requires : tie.Need-wide-requires Inv-loop μ-loop
 wide-requires c κs = search needs
 
--- the entry has blocks enough: the run ends in it
-stops : (c : tie.Then1 Inv-loop μ-loop)
-    → c .before .before .before .loop .at + c .before .before .before .loop .rest * c .before .wide .result
-    ≡ ends (now (c .before .before .before .before .before .args .words)) (c .before .before .before .loop .i) (c .before .before .before .loop .at)
-    (c .before .before .before .loop .here) (c .before .before .before .loop .rest)
-stops c =
-    let l = c .before .before .before .loop in
-    let w = now (c .before .before .before .before .before .args .words) in
-    walk-stop (l .here) (c .before .wide .result) (getD w (2 * l .i + 1) 0) (drop (2 * (l .i + 1)) w) (l .rest) (l .at) (c .before .wide .ensures .0) (c .if1 .taken)
+-- a turn with its entry's length in hand
+module _ (c : tie.After-wide Inv-loop μ-loop) where
+  abbrev turn : tie.At-loop Inv-loop μ-loop
+  turn = c .before .before
 
--- it has not: the next entry starts within the limit, as the run ends within it
-goes-on : (c : tie.Else1 Inv-loop μ-loop)
-    → c .before .before .before .loop .at + c .before .before .before .loop .here * c .before .wide .result ≤ 16777216
-goes-on c =
-    let l = c .before .before .before .loop in
-    let w = now (c .before .before .before .before .before .args .words) in
-    omega (arith, walk-on (l .here) (c .before .wide .result) (getD w (2 * l .i + 1) 0) (drop (2 * (l .i + 1)) w) (l .rest) (l .at) (c .before .wide .ensures .0) (c .if1 .left))
+  abbrev words : List ℕ
+  words = now (turn .before .before .args .words)
+
+  -- the entry has blocks enough: the run ends in it
+  stops : turn .loop .rest ≤ turn .loop .here
+      → turn .loop .at + turn .loop .rest * c .wide .result ≡ ends words (turn .loop .i) (turn .loop .at) (turn .loop .here) (turn .loop .rest)
+  stops h = walk-stop (turn .loop .here) (c .wide .result) _ (drop (2 * (turn .loop .i + 1)) words) (turn .loop .rest) (turn .loop .at) (c .wide .ensures .0) h
+
+  -- it has not: the next entry starts within the limit, as the run ends within it
+  goes-on : turn .loop .here < turn .loop .rest → turn .loop .at + turn .loop .here * c .wide .result ≤ maxLength
+  goes-on h =
+      omega
+      (arith, walk-on (turn .loop .here) (c .wide .result) _ (drop (2 * (turn .loop .i + 1)) words) (turn .loop .rest) (turn .loop .at) (c .wide .ensures .0) h)
 
 mul-result : tie.Need-mul-result Inv-loop μ-loop
-mul-result c = omega (arith, stops c)
+mul-result c = omega (arith, stops (c .before) (search needs))
 
 add-result : tie.Need-add-result Inv-loop μ-loop
-add-result c = omega (arith, stops c)
+add-result c = omega (arith, stops (c .before) (search needs))
 
 mul-at : tie.Need-mul-at Inv-loop μ-loop
-mul-at c = omega (arith, goes-on c)
+mul-at c = omega (arith, goes-on (c .before) (search needs))
 
 add-at : tie.Need-add-at Inv-loop μ-loop
-add-at c = omega (arith, goes-on c)
+add-at c = omega (arith, goes-on (c .before) (search needs))
 
 sub-rest : tie.Need-sub-rest Inv-loop μ-loop
 sub-rest c = search needs
@@ -87,9 +88,8 @@ mul-wide-4 c = search needs
 
 shared-slice-read-wide-2 : tie.Need-shared-slice-read-wide-2 Inv-loop μ-loop
 shared-slice-read-wide-2 c =
-    let l = c .before .before .before .before .loop in
-    let w = now (c .before .before .before .before .before .before .args .words) in
-    let m = walk-more w (l .i + 1) (omega arith) in
+    let read = c .before .before in
+    let more = walk-more (words read) (turn read .loop .i + 1) (omega arith) in
     omega arith
 
 wide-requires-2 : tie.Need-wide-requires-2 Inv-loop μ-loop
@@ -100,17 +100,19 @@ loop-less c = search needs
 
 loop-again : tie.Need-loop-again Inv-loop μ-loop
 loop-again c =
-    let l = c .before .before .before .before .before .loop in
-    let w = now (c .before .before .before .before .before .before .before .args .words) in
-    let m = walk-more w (l .i + 1) (omega arith) in (
-      m,
-      omega (arith, entry-blocks w (l .i + 1) (c .wide2 .result) (getD w (2 * (l .i + 1) + 1) 0) m (c .wide2 .ensures .0) refl),
-      walk-next w (l .i + 1) (l .here) (c .before .before .before .wide .result) (getD w (2 * l .i + 1) 0) (l .rest) (l .at) (c .wide2 .result) (c .before .before .before .wide .ensures .0) (c .wide2 .ensures .0) (search needs) m ∙ l .inv .2,
+    let read = c .before .before .before in
+    let l = turn read .loop in
+    let w = words read in
+    let more = walk-more w (l .i + 1) (omega arith) in
+    let next = c .wide2 .ensures .0 in (
+      more,
+      omega (arith, entry-blocks w (l .i + 1) (c .wide2 .result) (getD w (2 * (l .i + 1) + 1) 0) more next refl),
+      walk-next w (l .i + 1) (l .here) (read .wide .result) _ (l .rest) (l .at) (c .wide2 .result) (read .wide .ensures .0) next (search needs) more ∙ l .inv .2,
       search needs,
     )
 
 returns : tie.Need-returns Inv-loop μ-loop
-returns c = stops c ∙ c .before .before .before .loop .inv .2
+returns c = let read = c .before in stops read (search needs) ∙ turn read .loop .inv .2
 
 pub run-end-spec : {M : Type 1} → statement M
 run-end-spec =

@@ -1,11 +1,12 @@
--- `block_service::erase::erase_list` meets its contract.
-use Prim.Native.Nat.{ℕ, _-_, _≤_}
-use mathlib.Core.Path.{_≡_, refl, _∙_}
-use mathlib.Core.Bool.{true}
+-- `block_service::erase::erase_list` meets its contract: what the words from place i on name is still to be erased.
+use Prim.Native.Nat.{ℕ, _+_, _-_, _≤_, _<_}
+use mathlib.Core.Path.{_≡_, refl, sym, _∙_}
+use mathlib.Core.Bool.{true, true≢false}
+use mathlib.Core.List.{List}
 use native.Mathlib.Omega.{arith}
 use borrow.Author.Needs.{needs}
 use denote.Ref.{now}
-use lib.ListN.{length, drop}
+use lib.ListN.{length, getD, drop}
 use Rattle.common.specs.Lists.{edit}
 use Rattle.volume.specs.BlockMap.{blocks}
 use Rattle.block_service.specs.Erase.{goodList}
@@ -21,8 +22,33 @@ Inv-loop words volume₀ list value i₀ volume i =
 abbrev μ-loop : tie.MeasureT-loop
 μ-loop words volume₀ list value i₀ volume i = length list - i
 
+-- a turn's place, what was lent, and the words of the list
+abbrev entry : tie.At-loop Inv-loop μ-loop → tie.Start Inv-loop μ-loop
+entry c = c .before .before .before .before
+
+abbrev words : tie.At-loop Inv-loop μ-loop → List ℕ
+words c = now (entry c .args .list)
+
+abbrev turn : tie.Else1 Inv-loop μ-loop → tie.At-loop Inv-loop μ-loop
+turn c = c .before .before .before
+
+-- a turn whose word is no terminator has a pair of a good list in hand, and a good list after it
+module _ (c : tie.Else1 Inv-loop μ-loop) where
+  pairs : turn c .loop .i + 1 < length (words (turn c))
+  pairs = good-even _ (turn c .loop .i) _ (search needs) (search needs) (turn c .loop .inv .1)
+
+  abbrev first : ℕ
+  first = getD (words (turn c)) (turn c .loop .i) 0
+
+  abbrev count : ℕ
+  count = getD (words (turn c)) (turn c .loop .i + 1) 0
+
+  good : (0 < count) × (first + count ≤ blocks (now (entry (turn c) .args .words)))
+      × (goodList (blocks (now (entry (turn c) .args .words))) (drop (turn c .loop .i + 2) (words (turn c))) ≡ true)
+  good = pair-good (words (turn c)) (turn c .loop .i) first count pairs refl refl (search needs) _ (turn c .loop .inv .1)
+
 loop-holds : tie.Need-loop-holds Inv-loop μ-loop
-loop-holds c = (search needs, c .before .before .before .pre .1 .1, refl, refl)
+loop-holds c = (search needs, search needs, refl, refl)
 
 mul-first : tie.Need-mul-first Inv-loop μ-loop
 mul-first c = search needs
@@ -31,13 +57,12 @@ shared-slice-read-first : tie.Need-shared-slice-read-first Inv-loop μ-loop
 shared-slice-read-first c = search needs
 
 same-length : tie.Need-same-length Inv-loop μ-loop
-same-length c = c .before .before .before .loop .inv .2
+same-length c = search needs
 
 returns : tie.Need-returns Inv-loop μ-loop
 returns c =
-    let l = c .before .before .before .loop in
-    let a = c .before .before .before .before .before .before .before .args in
-    erase-end (now (a .words)) (now (a .list)) (l .i) (a .value) (l .volume) (search needs) (c .if1 .taken) ∙ l .inv .3
+    let t = c .before .before .before in
+    erase-end _ (words t) (t .loop .i) _ _ (search needs) (search needs) ∙ t .loop .inv .3
 
 add-erase-run : tie.Need-add-erase-run Inv-loop μ-loop
 add-erase-run c = search needs
@@ -46,17 +71,13 @@ mul-erase-run : tie.Need-mul-erase-run Inv-loop μ-loop
 mul-erase-run c = search needs
 
 shared-slice-read-erase-run : tie.Need-shared-slice-read-erase-run Inv-loop μ-loop
-shared-slice-read-erase-run c =
-    let l = c .before .before .before .before .before .loop in
-    good-even _ (l .i) _ (search needs) (search needs) (l .inv .1)
+shared-slice-read-erase-run c = pairs (c .before .before)
 
 erase-run-requires : tie.Need-erase-run-requires Inv-loop μ-loop
 erase-run-requires c κs =
-    let l = c .before .before .before .before .before .loop in
-    let w = now (c .before .before .before .before .before .before .before .before .before .args .list) in
-    let e = good-even w (l .i) _ (search needs) (search needs) (l .inv .1) in
-    let k = pair-good w (l .i) _ _ e refl refl (search needs) _ (l .inv .1) in
-    (c .before .before .before .before .before .before .before .before .before .pre .0, (omega (arith, l .inv .2, c .before .before .before .before .before .before .before .before .before .pre .1 .0), (k .0, k .1)))
+    let asked = c .before .before in
+    let lent = entry (turn asked) in
+    (lent .pre .0, (omega (arith, turn asked .loop .inv .2, lent .pre .1 .0), (good asked .0, good asked .1)))
 
 add-i : tie.Need-add-i Inv-loop μ-loop
 add-i c = search needs
@@ -66,25 +87,24 @@ loop-less c = omega arith
 
 loop-again : tie.Need-loop-again Inv-loop μ-loop
 loop-again c =
-    let l = c .before .before .before .before .before .before .before .before .loop in
-    let a = c .before .before .before .before .before .before .before .before .before .before .before .before .args in
-    let w = now (a .list) in
-    let e = good-even w (l .i) _ (search needs) (search needs) (l .inv .1) in
-    let k = pair-good w (l .i) _ _ e refl refl (search needs) _ (l .inv .1) in (
-      omega arith,
-      k .2,
-      omega (arith, c .before .before .erase-run .kept .1 .0, l .inv .2),
-      erase-next (now (a .words)) w (l .i) _ _ (a .value) (l .volume) _ e refl refl (search needs) (c .before .before .erase-run .ensures) ∙ l .inv .3,
+    let erased = c .before .before in
+    let asked = erased .before .before .before in
+    let t = turn asked in (
+      omega (arith, pairs asked),
+      good asked .2,
+      omega (arith, erased .erase-run .kept .1 .0, t .loop .inv .2),
+      erase-next _ (words t) (t .loop .i) (first asked) (count asked) _ (t .loop .volume) _ (pairs asked) refl refl (search needs) (erased .erase-run .ensures)
+          ∙ t .loop .inv .3,
     )
 
 same-length-2 : tie.Need-same-length-2 Inv-loop μ-loop
-same-length-2 c = c .before .loop .inv .2
+same-length-2 c = search needs
 
 returns-2 : tie.Need-returns-2 Inv-loop μ-loop
 returns-2 c =
-    let l = c .before .loop in
-    let g = past-list (now (c .before .before .before .before .before .args .list)) (l .i) (blocks (now (c .before .before .before .before .before .args .words))) (search needs) in
-    absurd (let h = l .inv .1 in let z : _≡_ {A = ℕ} 0 1 = cc in omega arith)
+    let t = c .before in
+    let g = past-list (words t) (t .loop .i) (blocks (now (entry t .args .words))) (search needs) in
+    absurd (true≢false (sym (t .loop .inv .1) ∙ sym g))
 
 pub erase-list-spec : {M : Type 1} → statement M
 erase-list-spec =

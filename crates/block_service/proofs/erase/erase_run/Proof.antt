@@ -1,10 +1,11 @@
 -- `block_service::erase::erase_run` meets its contract.
-use Prim.Native.Nat.{_+_, _≤_}
+use Prim.Native.Nat.{ℕ, _+_, _≤_}
 use mathlib.Core.Path.{_≡_, sym, _∙_}
 use native.Mathlib.Omega.{arith}
 use borrow.Author.Needs.{needs}
 use denote.Ref.{now}
 use lib.ListN.{length}
+use Rattle.volume.specs.BlockMap.{blocks}
 use Rattle.block_service.specs.Blocks.{place, firstByte}
 use Rattle.block_service.specs.declared.blocks.Place.the-variants.{At}
 use Rattle.block_service.proofs.erase.Lists.{run-back}
@@ -13,23 +14,41 @@ use Rattle.block_service.proofs.blocks.Runs.{found-walk, walk-asks, fir
 use Rattle.block_service.proofs.erase.erase_run.Statement.{statement}
 use Rattle.block_service.proofs.erase.erase_run.Tie as tie
 
+-- the places: where the first block was looked for, and where it was found
+abbrev entry : tie.After-find-block → tie.Start
+entry c = c .before .before .before
+
+abbrev scanned : tie.After-known-told → tie.After-find-block
+scanned c = c .before .before .before
+
 -- the first block was found
 hit : (c : tie.After-known-told)
-    → (place (now (c .before .before .before .before .before .before .args .words)) (c .before .before .before .before .before .before .args .first)
-    ≡ At (c .before .found .given .0 .0) (c .before .found .given .0 .1 .0) (c .before .found .given .0 .1 .1 .0) (c .before .found .given .0 .1 .1 .1 .0))
-hit c = sym (c .before .before .before .find-block .ensures) ∙ c .before .found .given .1
+    → place (now (entry (scanned c) .args .words)) (entry (scanned c) .args .first)
+    ≡ At (c .before .found .given .0 .0) (c .before .found .given .0 .1 .0) (c .before .found .given .0 .1 .1 .0) (c .before .found .given .0 .1 .1 .1 .0)
+hit c = sym (scanned c .find-block .ensures) ∙ c .before .found .given .1
 
 -- where its run ends
-ends : (c : tie.After-run-end) → c .run-end .result ≡ firstByte (now (c .before .before .before .before .before .before .before .args .words)) (c .before .before .before .before .before .before .before .args .first + c .before .before .before .before .before .before .before .args .count)
-ends c = c .run-end .ensures ∙ found-walk _ _ _ _ _ _ _ (hit (c .before))
+module _ (c : tie.After-run-end) where
+  abbrev asked : tie.Start
+  asked = entry (scanned (c .before))
 
-rises : (c : tie.After-run-end) → c .before .before .found .given .0 .1 .0 ≤ c .run-end .result
-rises c =
-    let a = c .before .before .before .before .before .before .before .args in
-    omega (arith, ends c, found-start _ _ _ _ _ _ (hit (c .before)), firstByte-rises (now (a .words)) (a .first) (a .count))
+  abbrev start : ℕ
+  start = c .before .before .found .given .0 .1 .0
 
-fits : (c : tie.After-run-end) → c .run-end .result ≤ length (now (c .before .before .before .before .before .before .before .args .volume))
-fits c = let a = c .before .before .before .before .before .before .before .args in omega (arith, ends c, firstByte-le (now (a .words)) (a .first + a .count))
+  there : asked .args .first + asked .args .count ≤ blocks (now (asked .args .words))
+  there = search needs
+
+  starts : start ≡ firstByte (now (asked .args .words)) (asked .args .first)
+  starts = found-start _ _ _ _ _ _ (hit (c .before))
+
+  ends : c .run-end .result ≡ firstByte (now (asked .args .words)) (asked .args .first + asked .args .count)
+  ends = c .run-end .ensures ∙ found-walk _ _ _ _ _ _ _ (hit (c .before))
+
+  rises : start ≤ c .run-end .result
+  rises = omega (arith, ends, starts, firstByte-rises (now (asked .args .words)) (asked .args .first) (asked .args .count))
+
+  fits : c .run-end .result ≤ length (now (asked .args .volume))
+  fits = omega (arith, ends, firstByte-le (now (asked .args .words)) (asked .args .first + asked .args .count))
 
 find-block-requires : tie.Need-find-block-requires
 find-block-requires c κs = search needs
@@ -42,8 +61,8 @@ enum-told c = search needs
 
 returns : tie.Need-returns
 returns c =
-    let a = c .before .before .before .before .before .args in
-    absurd (omega (arith, place-lost (now (a .words)) (a .first) (sym (c .before .before .find-block .ensures) ∙ c .enum-told .given .1)))
+    let looked = c .before .before in
+    absurd (omega (arith, place-lost (now (entry looked .args .words)) (entry looked .args .first) (sym (looked .find-block .ensures) ∙ c .enum-told .given .1)))
 
 run-end-requires : tie.Need-run-end-requires
 run-end-requires c κs = walk-asks _ _ _ _ _ _ _ (hit c) (search needs) (search needs)
@@ -65,9 +84,9 @@ same-length c = search needs
 
 returns-2 : tie.Need-returns-2
 returns-2 c =
-    let a = c .before .before .before .before .before .before .before .before .before .before .before .args in
-    run-back (now (a .words)) (a .first) (a .count) (a .value) _ _ (now (a .volume)) _ (search needs) (found-start _ _ _ _ _ _ (hit (c .before .before .before .before .before))) (ends (c .before .before .before .before))
-    (rises (c .before .before .before .before)) (fits (c .before .before .before .before)) (c .before .before .fill .ensures)
+    let filled = c .before .before in
+    let known = filled .before .before in
+    run-back _ _ _ _ _ _ _ _ (there known) (starts known) (ends known) (rises known) (fits known) (filled .fill .ensures)
 
 pub erase-run-spec : {M : Type 1} → statement M
 erase-run-spec =

@@ -7,7 +7,7 @@ use Rattle.common.proofs.Refusals.{row-applies, row-passes, no-row}
 use Rattle.volume.specs.Attributes.{flag, lockStatus}
 use Rattle.volume.specs.State.{stateWith, unlawful}
 use Rattle.block_service.specs.Service.{setAttributes, settingsAnswer, bufferOf, refusals, perform, effect, withAttributes}
-use Rattle.block_service.specs.Settings.{changesFixed, lacksCapability, settingRefusals}
+use Rattle.block_service.specs.Settings.{changesFixed, settingRefusals}
 use Rattle.block_service.proofs.service.Steps.{unlawful-step, refused-step, allowed-step}
 use Rattle.block_service.proofs.service.set_attributes.Statement.{statement}
 use Rattle.block_service.proofs.service.set_attributes.Tie as tie

@@ -1,0 +1,261 @@
+-- What a reader of document 01 may want to know of the block service, beyond the contracts of src/: each theorem with 01's words, in 01's order.
+-- `step st v c` is the call c on the state st and the lent volume v; its result has the answer, and the state, the volume and the reader's buffer
+-- afterwards. The proofs are citations; the laws stand under the module of src/ that they serve.
+use Prim.Native.Nat.{ℕ, _+_, _-_, _*_, _/_, _%_, _^_, _≤_, _<_}
+use mathlib.Core.Bool.{true, false, not, _&&_}
+use mathlib.Core.List.{List, [], _∷_, _++_}
+use mathlib.Core.Path.{_≡_, sym}
+use lib.Bits.{bitAnd, bitOr}
+use lib.Dec.{T, eqb}
+use lib.ListN.{length, getD}
+use Rattle.common.specs.Answers.{refused, success}
+use Rattle.volume.specs.Attributes.{flag, readStatus, writeStatus, lockStatus, stickyWrite, memoryMapped, erasePolarity}
+use Rattle.volume.specs.BlockMap.{blocks}
+use Rattle.volume.specs.State.{mapOf, unlawful}
+use Rattle.volume.specs.declared.state.State.{State}
+use Rattle.block_service.specs.Access.{countMoved, writtenByte, erasedByte}
+use Rattle.block_service.specs.Blocks.{place, inBlock}
+use Rattle.block_service.specs.Erase.{endOfList, goodList, names}
+use Rattle.block_service.specs.Service.{Call, getPhysicalAddress, setAttributes, getBlockSize, read, write, eraseBlocks}
+use Rattle.block_service.specs.Service.{moveAnswer, withAttributes, result, bufferOf, step}
+use Rattle.block_service.specs.Settings.{changesFixed, lacksCapability}
+use Rattle.block_service.specs.declared.blocks.Place.the-variants.{At}
+use Rattle.block_service.proofs.access.Moves as Moves
+use Rattle.block_service.proofs.settings.Rules as Rules
+use Rattle.block_service.proofs.service.Erasing as Erasing
+use Rattle.block_service.proofs.service.Kept as Kept
+use Rattle.block_service.proofs.service.Moving as Moving
+use Rattle.block_service.proofs.service.Setting as Setting
+use Rattle.block_service.proofs.service.Sizes as Sizes
+use Rattle.block_service.proofs.service.Steps as Steps
+
+-- ---- the state
+
+-- "Later calls follow the state and never read the header again, even after a write or erase over it": on volumes of one length a call answers the
+-- same and leaves the same state, whatever their bytes
+pub follows-state : (st : State) (v w : List ℕ) (c : Call) → length v ≡ length w
+    → (step st v c .answer ≡ step st w c .answer) × (step st v c .state ≡ step st w c .state)
+follows-state = Kept.follows-state
+
+-- "Settings live in the state; setting them stores nothing in the volume"
+pub set-stores-nothing : (st : State) (v : List ℕ) (new : ℕ) → step st v (setAttributes new) .volume ≡ v
+set-stores-nothing = Setting.set-stores-nothing
+
+-- ---- refusals
+
+-- "Service calls use 111, then 5, then 15, then 2": 111 first, at every call
+pub order-111 : (st : State) (v : List ℕ) (c : Call) → unlawful st ≡ true → step st v c ≡ result (refused 111) st v (bufferOf c)
+order-111 st v c e = sym (Steps.unlawful-step st v c e)
+
+-- then 5: "lent volume shorter than the state's length"
+pub order-5 : (st : State) (v : List ℕ) → unlawful st ≡ false → length v < st .length
+    → ((b o : ℕ) (buffer : List ℕ) → step st v (read b o buffer) ≡ result (refused 5) st v buffer)
+    × ((b o : ℕ) (new : List ℕ) → step st v (write b o new) ≡ result (refused 5) st v [])
+    × ((list : List ℕ) → step st v (eraseBlocks list) ≡ result (refused 5) st v [])
+order-5 = Steps.order-5
+
+-- then 15: "reads or writes disabled"
+pub order-15-read : (st : State) (v : List ℕ) → unlawful st ≡ false → st .length ≤ length v → flag (st .attributes) readStatus ≡ false
+    → (b o : ℕ) (buffer : List ℕ) → step st v (read b o buffer) ≡ result (refused 15) st v buffer
+order-15-read = Steps.order-15-read
+
+pub order-15-write : (st : State) (v : List ℕ) → unlawful st ≡ false → st .length ≤ length v → flag (st .attributes) writeStatus ≡ false
+    → ((b o : ℕ) (new : List ℕ) → step st v (write b o new) ≡ result (refused 15) st v [])
+    × ((list : List ℕ) → step st v (eraseBlocks list) ≡ result (refused 15) st v [])
+order-15-write = Steps.order-15-write
+
+-- then 2: "no such block, bad erase list"
+pub order-2-read : (st : State) (v : List ℕ) → unlawful st ≡ false → st .length ≤ length v → flag (st .attributes) readStatus ≡ true
+    → (b o : ℕ) (buffer : List ℕ) → blocks (mapOf st) ≤ b → step st v (read b o buffer) ≡ result (refused 2) st v buffer
+order-2-read = Steps.order-2-read
+
+pub order-2-write : (st : State) (v : List ℕ) → unlawful st ≡ false → st .length ≤ length v → flag (st .attributes) writeStatus ≡ true
+    → ((b o : ℕ) (new : List ℕ) → blocks (mapOf st) ≤ b → step st v (write b o new) ≡ result (refused 2) st v [])
+    × ((list : List ℕ) → goodList (blocks (mapOf st)) list ≡ false → step st v (eraseBlocks list) ≡ result (refused 2) st v [])
+order-2-write = Steps.order-2-write
+
+pub order-2-size : (st : State) (v : List ℕ) (b : ℕ) → unlawful st ≡ false → blocks (mapOf st) ≤ b
+    → step st v (getBlockSize b) ≡ result (refused 2) st v []
+order-2-size = Steps.order-2-size
+
+-- "the base address uses 111, then 3"
+pub order-3 : (st : State) (v : List ℕ) → unlawful st ≡ false → flag (st .attributes) memoryMapped ≡ false
+    → step st v getPhysicalAddress ≡ result (refused 3) st v []
+order-3 = Steps.order-3
+
+-- "A refusal carries no value but its number; the state stays, and no lent byte changes"
+pub refused-changes-nothing : (st : State) (v : List ℕ) (c : Call) (n : ℕ) → step st v c .answer ≡ refused n
+    → step st v c ≡ result (refused n) st v (bufferOf c)
+refused-changes-nothing = Steps.refused-changes-nothing
+
+-- "Volume bytes past the state's length never change"
+pub past-length-kept : (st : State) (v : List ℕ) (c : Call) (i : ℕ) → st .length ≤ i → getD (step st v c .volume) i 0 ≡ getD v i 0
+past-length-kept = Kept.past-length-kept
+
+-- nor do the length of the lent volume, the map, and that the state breaks no rule
+pub length-kept : (st : State) (v : List ℕ) (c : Call) → length (step st v c .volume) ≡ length v
+length-kept = Kept.length-kept
+
+pub map-kept : (st : State) (v : List ℕ) (c : Call) → mapOf (step st v c .state) ≡ mapOf st
+map-kept = Kept.map-kept
+
+pub lawful-kept : (st : State) (v : List ℕ) (c : Call) → unlawful st ≡ false → unlawful (step st v c .state) ≡ false
+lawful-kept = Kept.lawful-kept
+
+-- ---- blocks
+
+-- "Blocks are numbered from 0 through the map in order": every byte below a lawful state's length lies in exactly one block
+pub one-block : (st : State) → unlawful st ≡ false → (i : ℕ) → i < st .length
+    → (b : ℕ) × (T (inBlock (mapOf st) b i)) × ((a : ℕ) → T (inBlock (mapOf st) a i) → a ≡ b)
+one-block = Sizes.one-block
+
+-- "Block size answers the length, and the number of blocks from the one asked to the end of its map entry, itself included": a block that it answers
+-- for is there, in an entry e, with that length and that number
+pub size-place : (st : State) (v : List ℕ) (b l r : ℕ) → step st v (getBlockSize b) .answer ≡ success (l ∷ r ∷ [])
+    → (e : ℕ) × (s : ℕ) × (place (mapOf st) b ≡ At e s l r)
+size-place = Sizes.size-place
+
+-- and the r blocks from b on lie one after the other in b's entry, all of length l; the block after them, if there is one, is in a later entry
+pub run-in-entry : (m : List ℕ) (b e s l r : ℕ) → place m b ≡ At e s l r
+    → ((k : ℕ) → k < r → place m (b + k) ≡ At e (s + k * l) l (r - k))
+    × ((e' s' l' r' : ℕ) → place m (b + r) ≡ At e' s' l' r' → e < e')
+run-in-entry = Sizes.run-in-entry
+
+-- ---- read and write, of a block that starts at byte s and has length l
+
+-- "the count is the smaller of the lent data length and L minus offset, or 0 where offset exceeds L"
+pub count-none : (len offset n : ℕ) → len ≤ offset → countMoved len offset n ≡ 0
+count-none = Moves.count-none
+
+-- "The answer is success if the count is the whole data length, otherwise 4 (short)": with the count, of a read that is not refused
+pub read-answer : (st : State) (v : List ℕ) (b o : ℕ) (buffer : List ℕ) → ((n : ℕ) → step st v (read b o buffer) .answer ≡ refused n → ⊥)
+    → (e s l r : ℕ) → place (mapOf st) b ≡ At e s l r
+    → step st v (read b o buffer) .answer ≡ moveAnswer (countMoved l o (length buffer)) (length buffer)
+read-answer = Moving.read-answer
+
+-- and of a write
+pub write-answer : (st : State) (v : List ℕ) (b o : ℕ) (new : List ℕ) → ((n : ℕ) → step st v (write b o new) .answer ≡ refused n → ⊥)
+    → (e s l r : ℕ) → place (mapOf st) b ≡ At e s l r
+    → step st v (write b o new) .answer ≡ moveAnswer (countMoved l o (length new)) (length new)
+write-answer = Moving.write-answer
+
+-- "A read fills the first counted bytes of the buffer"
+pub read-filled : (st : State) (v : List ℕ) (b o : ℕ) (buffer : List ℕ) → ((n : ℕ) → step st v (read b o buffer) .answer ≡ refused n → ⊥)
+    → (e s l r : ℕ) → place (mapOf st) b ≡ At e s l r
+    → (j : ℕ) → j < countMoved l o (length buffer) → getD (step st v (read b o buffer) .buffer) j 0 ≡ getD v (s + o + j) 0
+read-filled = Moving.read-filled
+
+-- "and leaves the rest"
+pub read-rest : (st : State) (v : List ℕ) (b o : ℕ) (buffer : List ℕ) → ((n : ℕ) → step st v (read b o buffer) .answer ≡ refused n → ⊥)
+    → (e s l r : ℕ) → place (mapOf st) b ≡ At e s l r
+    → (j : ℕ) → countMoved l o (length buffer) ≤ j → getD (step st v (read b o buffer) .buffer) j 0 ≡ getD buffer j 0
+read-rest = Moving.read-rest
+
+-- a write stores each counted byte by the volume's write rule
+pub write-named : (st : State) (v : List ℕ) (b o : ℕ) (new : List ℕ) → ((n : ℕ) → step st v (write b o new) .answer ≡ refused n → ⊥)
+    → (e s l r : ℕ) → place (mapOf st) b ≡ At e s l r → (j : ℕ) → j < countMoved l o (length new)
+    → getD (step st v (write b o new) .volume) (s + o + j) 0 ≡ writtenByte (st .attributes) (getD v (s + o + j) 0) (getD new j 0)
+write-named = Moving.write-named
+
+-- in the block that it names
+pub write-in-block : (st : State) (v : List ℕ) (b o : ℕ) (new : List ℕ) → ((n : ℕ) → step st v (write b o new) .answer ≡ refused n → ⊥)
+    → (e s l r : ℕ) → place (mapOf st) b ≡ At e s l r → (j : ℕ) → j < countMoved l o (length new) → T (inBlock (mapOf st) b (s + o + j))
+write-in-block = Moving.write-in-block
+
+-- and no other byte
+pub write-other : (st : State) (v : List ℕ) (b o : ℕ) (new : List ℕ) → ((n : ℕ) → step st v (write b o new) .answer ≡ refused n → ⊥)
+    → (e s l r : ℕ) → place (mapOf st) b ≡ At e s l r → (i : ℕ) → (s + o ≤ i → i < s + o + countMoved l o (length new) → ⊥)
+    → getD (step st v (write b o new) .volume) i 0 ≡ getD v i 0
+write-other = Moving.write-other
+
+-- "A write replaces bytes on a volume without sticky write"
+pub written-plain : (a old new : ℕ) → flag a stickyWrite ≡ false → writtenByte a old new ≡ new
+written-plain = Moves.written-plain
+
+-- "With sticky write, each stored byte is old AND new where the erase value is 1"
+pub written-and : (a old new : ℕ) → flag a stickyWrite ≡ true → flag a erasePolarity ≡ true → writtenByte a old new ≡ bitAnd old new
+written-and = Moves.written-and
+
+-- "old OR new where it is 0"
+pub written-or : (a old new : ℕ) → flag a stickyWrite ≡ true → flag a erasePolarity ≡ false → writtenByte a old new ≡ bitOr old new
+written-or = Moves.written-or
+
+-- ---- erase
+
+-- every byte of a block that a good list names is erased
+pub erase-named : (st : State) (v list : List ℕ) → step st v (eraseBlocks list) .answer ≡ success [] → (b i : ℕ) → T (names list b)
+    → T (inBlock (mapOf st) b i) → getD (step st v (eraseBlocks list) .volume) i 0 ≡ erasedByte (st .attributes)
+erase-named = Erasing.erase-named
+
+-- "erase value of every bit"
+pub erased-bit : (a j : ℕ) → j < 8 → erasedByte a / 2 ^ j % 2 ≡ a / erasePolarity % 2
+erased-bit = Erasing.erased-bit
+
+-- and every other byte stays
+pub erase-other : (st : State) (v list : List ℕ) → step st v (eraseBlocks list) .answer ≡ success []
+    → (i : ℕ) → ((b : ℕ) → T (names list b) → T (inBlock (mapOf st) b i) → ⊥) → getD (step st v (eraseBlocks list) .volume) i 0 ≡ getD v i 0
+erase-other = Erasing.erase-other
+
+-- "Words after that are ignored": after the terminator, which stands where a first block would, behind whole pairs
+pub words-after-end : (st : State) (v pairs a b : List ℕ) → length pairs % 2 ≡ 0
+    → step st v (eraseBlocks (pairs ++ (endOfList ∷ a))) ≡ step st v (eraseBlocks (pairs ++ (endOfList ∷ b)))
+words-after-end = Erasing.words-after-end
+
+-- "A block named twice is as if named once": only which blocks are named counts, of lists that are good or bad alike
+pub named-alike : (st : State) (v a b : List ℕ) → goodList (blocks (mapOf st)) a ≡ goodList (blocks (mapOf st)) b → ((k : ℕ) → names a k ≡ names b k)
+    → step st v (eraseBlocks a) ≡ step st v (eraseBlocks b)
+named-alike = Erasing.named-alike
+
+-- so a pair that stands twice is as if it stood once
+pub named-twice : (st : State) (v : List ℕ) (f c : ℕ) (rest : List ℕ)
+    → step st v (eraseBlocks (f ∷ c ∷ f ∷ c ∷ rest)) ≡ step st v (eraseBlocks (f ∷ c ∷ rest))
+named-twice = Erasing.named-twice
+
+-- "The empty list succeeds and changes nothing": the terminator, and whatever words follow it
+pub empty-list : (st : State) (v rest : List ℕ) → unlawful st ≡ false → st .length ≤ length v → flag (st .attributes) writeStatus ≡ true
+    → step st v (eraseBlocks (endOfList ∷ rest)) ≡ result (success []) st v []
+empty-list = Erasing.empty-list
+
+-- ---- set settings, of a lawful state
+
+-- "any bit changed other than 4, 0x20, 0x80: 2"
+pub set-fixed : (st : State) (v : List ℕ) (new : ℕ) → unlawful st ≡ false → changesFixed (st .attributes) new ≡ true
+    → step st v (setAttributes new) ≡ result (refused 2) st v []
+set-fixed = Setting.set-fixed
+
+-- no such bit is changed exactly where the settings agree at every bit but 4 (2 ^ 2), 0x20 (2 ^ 5) and 0x80 (2 ^ 7)
+pub fixed-bits : (old new : ℕ) → changesFixed old new ≡ false → (k : ℕ) → (k ≡ 2 → ⊥) → (k ≡ 5 → ⊥) → (k ≡ 7 → ⊥)
+    → old / 2 ^ k % 2 ≡ new / 2 ^ k % 2
+fixed-bits = Rules.fixed-bits
+
+pub bits-fixed : (old new : ℕ) → ((k : ℕ) → (k ≡ 2 → ⊥) → (k ≡ 5 → ⊥) → (k ≡ 7 → ⊥) → old / 2 ^ k % 2 ≡ new / 2 ^ k % 2)
+    → changesFixed old new ≡ false
+bits-fixed = Rules.bits-fixed
+
+-- "Locked and any bit changed: 15"
+pub set-locked : (st : State) (v : List ℕ) (new : ℕ) → unlawful st ≡ false → changesFixed (st .attributes) new ≡ false
+    → (flag (st .attributes) lockStatus && not (eqb (st .attributes) new)) ≡ true → step st v (setAttributes new) ≡ result (refused 15) st v []
+set-locked = Setting.set-locked
+
+-- "A change that lacks its capability .. : 2"
+pub set-lacking : (st : State) (v : List ℕ) (new : ℕ) → unlawful st ≡ false → changesFixed (st .attributes) new ≡ false
+    → (flag (st .attributes) lockStatus && not (eqb (st .attributes) new)) ≡ false → lacksCapability (st .attributes) new ≡ true
+    → step st v (setAttributes new) ≡ result (refused 2) st v []
+set-lacking = Setting.set-lacking
+
+-- where only 4, 0x20 and 0x80 change, 2 comes of a missing capability alone
+pub set-refused-2 : (st : State) (v : List ℕ) (new : ℕ)
+    → ((k : ℕ) → (k ≡ 2 → ⊥) → (k ≡ 5 → ⊥) → (k ≡ 7 → ⊥) → st .attributes / 2 ^ k % 2 ≡ new / 2 ^ k % 2)
+    → step st v (setAttributes new) .answer ≡ refused 2 → lacksCapability (st .attributes) new ≡ true
+set-refused-2 = Setting.set-refused-2
+
+-- otherwise the settings are set, and nothing else in the state changes
+pub set-done : (st : State) (v : List ℕ) (new : ℕ) → unlawful st ≡ false → changesFixed (st .attributes) new ≡ false
+    → (flag (st .attributes) lockStatus && not (eqb (st .attributes) new)) ≡ false → lacksCapability (st .attributes) new ≡ false
+    → step st v (setAttributes new) ≡ result (success (new ∷ [])) (withAttributes st new) v []
+set-done = Setting.set-done
+
+-- "Asking for the settings as they are succeeds": locked too, and nothing changes
+pub settings-as-they-are : (st : State) (v : List ℕ) → unlawful st ≡ false
+    → step st v (setAttributes (st .attributes)) ≡ result (success (st .attributes ∷ [])) st v []
+settings-as-they-are = Setting.settings-as-they-are
