@@ -4,6 +4,7 @@ use Prim.Native.Nat.{ℕ}
 use mathlib.Core.Path.{_≡_, refl}
 use mathlib.Core.List.{List, [], _∷_}
 use lib.ListN.{set, replicate}
+use Rattle.common.specs.Answers.{refused, success}
 use Rattle.common.specs.Refusals.{firstRefusal, any}
 use Rattle.numbers.specs.LittleEndian.{le}
 use Rattle.volume.specs.Access.{countMoved, writtenByte}
@@ -16,11 +17,10 @@ use Rattle.volume.specs.Service.{refusals, moveAnswer, writeChange, eraseChange
 use Rattle.volume.specs.Settings.{changesFixed, raises, clears, lacksCapability, settingRefusals}
 use Rattle.volume.specs.State.{mapOf, stateOf, stateWith, zeroState, unlawful}
 use Rattle.volume.specs.declared.header.Opening.the-variants as Opening
-use Rattle.sections.specs.Kinds.{kindOf}
+use Rattle.sections.specs.Types.{infoAmong, typeInfo}
 use Rattle.sections.specs.Header.{headAt, headFaults, sectionAt, packed, contentsAt, wrongContents}
 use Rattle.sections.specs.Walk.{streamWalk, walk, siblings, meet, afterPadding, zeros, andThen}
 use Rattle.sections.specs.Search.{searchOf, sections, firstFault, ofType}
-use Rattle.sections.specs.declared.search.Found.the-variants as Found
 use Rattle.isolation.specs.SampleA.{headerA, sampleA}
 use Rattle.isolation.proofs.Instances.{stateA}
 
@@ -76,11 +76,11 @@ pub record Table : Type 0 where
   -- settings 0x0EBF: 2
   pub p12 : Answers (onA (setAttributes 0x0EBF)) 2 []
   -- raw instance 1 is empty, instance 2 gives 14
-  pub p13 : searchOf stream 0x19 1 ≡ Found.Part 12 12
-  pub p13-none : searchOf stream 0x19 2 ≡ Found.Refused 14
+  pub p13 : searchOf stream 0x19 1 ≡ success (12 ∷ 12 ∷ [])
+  pub p13-none : searchOf stream 0x19 2 ≡ refused 14
 
 pub table : Table
-unfolding stateA onA after badSum stream numberOf valuesOf headerA sampleA firstRefusal any le countMoved writtenByte attributesFault baseFault blocks bytes hasZero allZero sizeFault place placeFrom startOf lengthOf leftOf blockAt goodList names erasedByte openVolume answered stateBeside stateAt wordsAt wordSum openRefusals headerLengthFault mapFault refusals moveAnswer writeChange eraseChange effect unless decide withAttributes edit changedByte perform bufferOf step changesFixed raises clears lacksCapability settingRefusals mapOf stateOf stateWith zeroState unlawful kindOf headAt headFaults sectionAt packed contentsAt wrongContents streamWalk walk siblings meet afterPadding zeros andThen searchOf sections firstFault ofType
+unfolding stateA onA after badSum stream numberOf valuesOf headerA sampleA firstRefusal any le countMoved writtenByte attributesFault baseFault blocks bytes hasZero allZero sizeFault place placeFrom startOf lengthOf leftOf blockAt goodList names erasedByte openVolume answered stateBeside stateAt wordsAt wordSum openRefusals headerLengthFault mapFault refusals moveAnswer writeChange eraseChange effect unless decide withAttributes edit changedByte perform bufferOf step changesFixed raises clears lacksCapability settingRefusals mapOf stateOf stateWith zeroState unlawful infoAmong typeInfo headAt headFaults sectionAt packed contentsAt wrongContents streamWalk walk siblings meet afterPadding zeros andThen searchOf sections firstFault ofType
 table =
     record {
       p1 = refl;

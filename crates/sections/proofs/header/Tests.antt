@@ -84,7 +84,7 @@ module _ {s : List ℕ} {at sectionType size : ℕ} (l : Lies s at sectionType s
       let n = l .sized in
       head-past-203 s at (omega arith) b (omega arith) w (rw h e)
 
-  holder-204 : wrongContents s at ≡ true → Fault 204 ≡ headAt s at
+  pub holder-204 : wrongContents s at ≡ true → Fault 204 ≡ headAt s at
   holder-204 e = holder-head true e
 
   module _ {first end : ℕ} (fe : first ≡ firstAt at) (ee : end ≡ at + size) where
