@@ -137,6 +137,9 @@ module _ (s : List ℕ) (t instance : ℕ) where
   pub found-exactly : WellFormed s → (numberOf (searchOf s t instance) ≡ 0) ↔ (instance < countOf t s)
   found-exactly = shown.found-exactly s t instance
 
+  pub search-found : WellFormed s → instance < countOf t s → (f : ℕ) × (e : ℕ) × (searchOf s t instance ≡ success (f ∷ e ∷ []))
+  search-found = shown.search-found s t instance
+
   pub search-missing : WellFormed s → countOf t s ≤ instance → searchOf s t instance ≡ refused 14
   search-missing = shown.search-missing s t instance
 

@@ -9,8 +9,9 @@ use lib.Dec.{eqb}
 use lib.ListN.{length, getD}
 use Rattle.common.specs.Refusals.{firstRefusal}
 use Rattle.numbers.specs.LittleEndian.{le}
-use Rattle.sections.specs.Types.{compression, compressionHeader, guidDefinedHeader, typeInfo}
-use Rattle.sections.specs.Header.{sizeAt, typeAt, unpackedLength, compressionKind, dataOffset, attributes, isHolder, contentsAt, firstAt, packed, wrongContents, headFaults, sectionAt, headAt, Lies}
+use Rattle.sections.specs.Types.{compression, typeInfo}
+use Rattle.sections.specs.Header.{sizeAt, typeAt, unpackedLength, compressionKind, dataOffset, attributes, isHolder}
+use Rattle.sections.specs.Header.{contentsAt, firstAt, packed, wrongContents, headFaults, sectionAt, headAt, Lies}
 use Rattle.sections.specs.declared.types.TypeInfo.{TypeInfo}
 use Rattle.sections.specs.declared.header.Head.the-variants.{Fault, Closed, Open}
 use Rattle.sections.proofs.types.Rows.{least-range}
