@@ -5,7 +5,8 @@ use mathlib.Core.Bool.{cond}
 use mathlib.Core.List.{List, [], _∷_}
 use lib.Dec.{eqb}
 use Rattle.sections.specs.declared.types.TypeName.{TypeName}
-use Rattle.sections.specs.declared.types.TypeName.the-variants.{Compression, GuidDefined, Pe32, Pic, Te, DxeDepex, Version, UserInterface, Compatibility16, FirmwareVolumeImage, FreeformSubtypeGuid, Raw, PeiDepex, Unknown}
+use Rattle.sections.specs.declared.types.TypeName.the-variants.{Compression, GuidDefined, Pe32, Pic, Te, DxeDepex, Version}
+use Rattle.sections.specs.declared.types.TypeName.the-variants.{UserInterface, Compatibility16, FirmwareVolumeImage, FreeformSubtypeGuid, Raw, PeiDepex, Unknown}
 use Rattle.sections.specs.declared.types.Class.{Class}
 use Rattle.sections.specs.declared.types.Class.the-variants.{OpenableHolder, GuidHeadedLeaf, PlainLeaf}
 use Rattle.sections.specs.declared.types.TypeInfo.{TypeInfo}

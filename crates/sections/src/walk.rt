@@ -102,7 +102,8 @@ fn visit(want: u8, seek: Seek, section_type: u8, first: usize, end: usize) -> Se
             if left == 0 {
                 return Seek::Met(first, end);
             }
-            Seek::Left(left - 1)
+            let rest = left - 1;
+            Seek::Left(rest)
         }
         Seek::Refused(_) => seek,
         Seek::Met(_, _) => seek,

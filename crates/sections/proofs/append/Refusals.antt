@@ -1,7 +1,7 @@
 -- The refusals of appending: each row where it is the first that applies, what the answer and the buffer are by the first row that
 -- applies, and what an answer with a used count says of the arguments.
 use Prim.Native.Nat.{ℕ, _≤_, _<_}
-use mathlib.Core.Path.{_≡_, refl, sym, _∙_}
+use mathlib.Core.Path.{_≡_, refl, _∙_}
 use mathlib.Core.Bool.{false}
 use mathlib.Core.List.{List, [], _∷_}
 use mathlib.Core.Option.{Option, none, some}
@@ -9,7 +9,7 @@ use native.Mathlib.Omega.{arith}
 use borrow.Author.Tests.{lt-ltb, le-ltb, eq-eqb, ne-eqb, ltb-false}
 use lib.ListN.{length, drop}
 use lib.Seq.{sets}
-use Rattle.common.specs.Answers.{Answer, refused, success, numberOf}
+use Rattle.common.specs.Answers.{refused, success, numberOf}
 use Rattle.common.specs.Refusals.{firstRefusal}
 use Rattle.common.proofs.Refusals.{row-passed, row-applies, row-passes, no-row}
 use Rattle.sections.specs.Types.{compression, guidDefined, typeInfo}

@@ -61,7 +61,7 @@ leaf-stored l l₁ l₂ l₃ body w used pad start size at t from k e₁ e₂ e�
     rw ew (sets-part body l₃ from k n (omega arith)) ∙ s₄ ∙ ap (sets l used) bytes
 
 -- the padding and the leaf take the bytes up to the new used count
-pub length-leaf : (t : ℕ) (body : List ℕ) → length (leaf t body) ≡ leafSize (length body)
+length-leaf : (t : ℕ) (body : List ℕ) → length (leaf t body) ≡ leafSize (length body)
 unfolding leaf
 length-leaf t body =
     let a = length-append (leBytes 3 (leafSize (length body))) (t ∷ body) in

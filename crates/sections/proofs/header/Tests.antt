@@ -9,8 +9,9 @@ use lib.Dec.{eqb}
 use lib.ListN.{length, getD}
 use Rattle.common.specs.Refusals.{firstRefusal}
 use Rattle.numbers.specs.LittleEndian.{le}
-use Rattle.sections.specs.Types.{compression, compressionHeader, guidDefinedHeader, typeInfo}
-use Rattle.sections.specs.Header.{sizeAt, typeAt, unpackedLength, compressionKind, dataOffset, attributes, isHolder, contentsAt, firstAt, packed, wrongContents, headFaults, sectionAt, headAt, Lies}
+use Rattle.sections.specs.Types.{compression, typeInfo}
+use Rattle.sections.specs.Header.{sizeAt, typeAt, unpackedLength, compressionKind, dataOffset, attributes, isHolder}
+use Rattle.sections.specs.Header.{contentsAt, firstAt, packed, wrongContents, headFaults, sectionAt, headAt, Lies}
 use Rattle.sections.specs.declared.types.TypeInfo.{TypeInfo}
 use Rattle.sections.specs.declared.header.Head.the-variants.{Fault, Closed, Open}
 use Rattle.sections.proofs.types.Rows.{least-range}
@@ -84,7 +85,7 @@ module _ {s : List ℕ} {at sectionType size : ℕ} (l : Lies s at sectionType s
       let n = l .sized in
       head-past-203 s at (omega arith) b (omega arith) w (rw h e)
 
-  holder-204 : wrongContents s at ≡ true → Fault 204 ≡ headAt s at
+  pub holder-204 : wrongContents s at ≡ true → Fault 204 ≡ headAt s at
   holder-204 e = holder-head true e
 
   module _ {first end : ℕ} (fe : first ≡ firstAt at) (ee : end ≡ at + size) where

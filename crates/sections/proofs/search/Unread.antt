@@ -62,7 +62,7 @@ packed-body {s} {at} {i} p =
     record { sectionType = p .sectionType; first = p .first; end = p .end; closed = p .closed; low = omega arith; high = p .high }
 
 -- packed contents, on every level, are such bodies
-pub packed-unread : {n : ℕ} {s : List ℕ} {at i : ℕ} → OnWalk PackedContents n s at i → Unread n s at i
+packed-unread : {n : ℕ} {s : List ℕ} {at i : ℕ} → OnWalk PackedContents n s at i → Unread n s at i
 packed-unread (here p) = here (packed-body p)
 packed-unread (after-closed p u) = after-closed p (packed-unread u)
 packed-unread (inside p q u) = inside p q (packed-unread u)
@@ -208,7 +208,7 @@ module _ (n : ℕ) (inner : List ℕ → ℕ → Trace)
       )
 
 -- the walk does not read those bytes
-pub walk-unread : (n : ℕ) (s s′ : List ℕ) (base : ℕ) → SameBut n s s′ 0 → walk n s base ≡ walk n s′ base
+walk-unread : (n : ℕ) (s s′ : List ℕ) (base : ℕ) → SameBut n s s′ 0 → walk n s base ≡ walk n s′ base
 unfolding walk
 walk-unread zero s s′ base b = rw (← b .long) (siblings-unread 0 (λ l c. done) (λ m l l′ c z x. refl) (length s) s s′ base 0 b)
 walk-unread (suc n) s s′ base b =

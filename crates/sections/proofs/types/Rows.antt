@@ -1,6 +1,6 @@
 -- Laws of the list of section types: each number of the list, every other number, the least sizes, and which types are holders.
 use Prim.Native.Nat.{ℕ, _≤_}
-use mathlib.Core.Path.{_≡_, refl, ap, _∙_}
+use mathlib.Core.Path.{_≡_, refl, ap}
 use mathlib.Core.Bool.{Bool, true, false, cond, not, _&&_}
 use mathlib.Core.List.{List, [], _∷_}
 use native.Mathlib.Omega.{arith}
@@ -10,7 +10,8 @@ use lib.ListN.{drop}
 use Rattle.sections.specs.Types.{compression, guidDefined, compressionHeader, guidDefinedHeader, TypeRow, types, typeIs, plainLeaf, infoAmong, typeInfo}
 use Rattle.sections.specs.Header.{isHolder}
 use Rattle.sections.specs.declared.types.TypeInfo.{TypeInfo}
-use Rattle.sections.specs.declared.types.TypeName.the-variants.{Compression, GuidDefined, Pe32, Pic, Te, DxeDepex, Version, UserInterface, Compatibility16, FirmwareVolumeImage, FreeformSubtypeGuid, Raw, PeiDepex, Unknown}
+use Rattle.sections.specs.declared.types.TypeName.the-variants.{Compression, GuidDefined, Pe32, Pic, Te, DxeDepex, Version}
+use Rattle.sections.specs.declared.types.TypeName.the-variants.{UserInterface, Compatibility16, FirmwareVolumeImage, FreeformSubtypeGuid, Raw, PeiDepex, Unknown}
 use Rattle.sections.specs.declared.types.Class.the-variants.{OpenableHolder, GuidHeadedLeaf, PlainLeaf}
 
 -- the thirteen types

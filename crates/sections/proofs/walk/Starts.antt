@@ -8,7 +8,6 @@ use native.Mathlib.Omega.{arith}
 use borrow.Author.Tests.{lt-ltb, le-ltb, ne-eqb, ltb-true, ltb-false}
 use lib.Dec.{ltb}
 use lib.ListN.{length}
-use Rattle.sections.specs.Types.{commonHeader}
 use Rattle.sections.specs.Header.{headAt}
 use Rattle.sections.specs.Walk.{Trace, done, fault, section, andThen, aligned, part, afterPadding, meet, siblings, walk}
 use Rattle.sections.specs.declared.header.Head.{Head}
@@ -16,11 +15,11 @@ use Rattle.sections.specs.declared.header.Head.the-variants.{Fault, Clos
 use Rattle.sections.proofs.header.Extent.{closed-within, open-within}
 
 -- the walk one level down
-abbrev pub deeper : ℕ → List ℕ → ℕ → Trace
+abbrev deeper : ℕ → List ℕ → ℕ → Trace
 deeper zero = λ l b. done
 deeper (suc n) = walk n
 
-pub walk-siblings : (n : ℕ) (s : List ℕ) (base : ℕ) → walk n s base ≡ siblings n (deeper n) (length s) s base 0
+walk-siblings : (n : ℕ) (s : List ℕ) (base : ℕ) → walk n s base ≡ siblings n (deeper n) (length s) s base 0
 unfolding walk
 walk-siblings zero s base = refl
 walk-siblings (suc n) s base = refl
@@ -37,7 +36,7 @@ unfolding siblings
 siblings-here n inner fuel s base at h = rw (lt-ltb at (length s) h)
 
 -- the walk at a start depends on what follows only through the starts after it
-pub meet-same : (n : ℕ) (inner : List ℕ → ℕ → Trace) (s : List ℕ) (base at : ℕ) (rest rest′ : ℕ → Trace) (h : Head) → headAt s at ≡ h
+meet-same : (n : ℕ) (inner : List ℕ → ℕ → Trace) (s : List ℕ) (base at : ℕ) (rest rest′ : ℕ → Trace) (h : Head) → headAt s at ≡ h
     → ((next : ℕ) → at + 4 ≤ next → rest next ≡ rest′ next) → meet n inner s base h rest ≡ meet n inner s base h rest′
 unfolding meet afterPadding
 meet-same n inner s base at rest rest′ (Fault m) p q = refl
@@ -84,7 +83,7 @@ module _ (n : ℕ) (s : List ℕ) (base at : ℕ) where
   unfolding walkFrom
   walk-end h = siblings-end n (deeper n) (length s) s base at h
 
-  pub walk-here : at < length s → walkFrom n s base at ≡ meet n (deeper n) s base (headAt s at) (walkFrom n s base)
+  walk-here : at < length s → walkFrom n s base at ≡ meet n (deeper n) s base (headAt s at) (walkFrom n s base)
   unfolding walkFrom
   walk-here h =
       siblings-same n (deeper n) (length s) (suc (length s)) s base at (omega arith) (omega arith)

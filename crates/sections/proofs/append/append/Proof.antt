@@ -1,5 +1,4 @@
 -- `append` meets its contract: each return is a row of the refusals, or the new used count.
-use mathlib.Core.Path.{_∙_}
 use borrow.Author.Needs.{needs}
 use Rattle.sections.proofs.append.Refusals.{append-refused, append-done, append-compression, append-guid, append-used, append-202, append-206-size, append-206-stream, append-5, append-passes}
 use Rattle.sections.proofs.append.append.Statement.{statement}

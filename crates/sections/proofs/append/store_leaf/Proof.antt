@@ -1,6 +1,5 @@
 -- `store_leaf` meets its contract: four runs of stores, one after another, are one.
 use Prim.Native.Nat.{_+_, _-_}
-use native.Mathlib.Omega.{arith}
 use borrow.Author.Needs.{needs}
 use denote.Ref.{now}
 use lib.ListN.{length}

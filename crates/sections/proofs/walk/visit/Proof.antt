@@ -14,8 +14,8 @@ returns c = visit-other _ _ _ _ (c .before .before .seek .given .1) (search need
 returns-2 : tie.Need-returns-2
 returns-2 c = visit-met _ _ _ _ (c .before .before .before .seek .given .1) (search needs) (search needs)
 
-sub-t9 : tie.Need-sub-t9
-sub-t9 c = search needs
+sub-rest : tie.Need-sub-rest
+sub-rest c = search needs
 
 enum-told : tie.Need-enum-told
 enum-told c = search needs
@@ -41,7 +41,7 @@ visit-spec =
     enum-known-seek
     returns
     returns-2
-    sub-t9
+    sub-rest
     enum-told
     enum-told-2
     returns-3
