@@ -35,8 +35,11 @@ loop-less c = search needs
 loop-again : tie.Need-loop-again Inv-loop μ-loop
 loop-again c =
     let stored = c .before .before in
-    let l = stored .before .before .before .loop in
-    (search needs, search needs, rw (stored .store .ensures) (spelled-next _ _ _ _ (l .room) (l .rest) (l .i) (search needs) (l .inv .2)))
+    let l = stored .before .before .before .loop in (
+      search needs,
+      search needs,
+      spelled-next _ _ _ _ (l .room) _ (l .rest) (l .i) _ _ _ (search needs) (l .inv .2) (stored .store .ensures) (omega arith) (omega arith) (omega arith),
+    )
 
 same-length : tie.Need-same-length Inv-loop μ-loop
 same-length c = c .before .loop .inv .1
