@@ -57,23 +57,23 @@ module _ (n : ℕ) (map : List ℕ) (at : ℕ) where
     words-length : length words ≡ 2 * n
     words-length = length-take-le (2 * n) map long
 
-    pub map-more : (count len after : ℕ) (room' : List ℕ) → i < n → count ≡ getD map (2 * i) 0 → len ≡ getD map (2 * i + 1) 0
-        → after ≡ end + length (mapLine first count len) → room' ≡ sets room end (mapLine first count len)
-        → MapLeft n map at before room' after (first + count) (i + 1)
-    map-more count len after room' h e f p q =
+    pub map-more : (count len after next : ℕ) (room' : List ℕ) → i < n → count ≡ getD map (2 * i) 0 → len ≡ getD map (2 * i + 1) 0
+        → after ≡ end + length (mapLine first count len) → room' ≡ sets room end (mapLine first count len) → next ≡ first + count
+        → MapLeft n map at before room' after next (i + 1)
+    map-more count len after next room' h e f p q t =
         let m = words-length in
         let g : getD words (2 * i) 0 ≡ count = getD-take (2 * n) map (2 * i) 0 (omega arith) ∙ sym e in
         let k : getD words (2 * i + 1) 0 ≡ len = getD-take (2 * n) map (2 * i + 1) 0 (omega arith) ∙ sym f in
-        let next = rw (g, k) at (map-next words first i (omega arith)) in
+        let split = rw (g, k, ← t) at (map-next words first i (omega arith)) in
         let line = mapLine first count len in
-        let rest = mapLines (first + count) (drop (2 * (i + 1)) words) in
-        let total = ap length next ∙ length-append line rest in
+        let rest = mapLines next (drop (2 * (i + 1)) words) in
+        let total = ap length split ∙ length-append line rest in
         let ends = left .ends in
         record {
           ends = omega arith;
           stored =
               left .stored
-              ∙ ap (λ (x : List ℕ). sets room end x) next
+              ∙ ap (λ (x : List ℕ). sets room end x) split
               ∙ sets-then line rest room end after p
               ∙ ap (λ (x : List ℕ). sets x after rest) (sym q);
         }

@@ -10,11 +10,14 @@ use Rattle.listing.proofs.Room.{listed-fits, listed-within}
 use Rattle.lister.proofs.main.Statement.{statement}
 use Rattle.lister.proofs.main.Tie as tie
 
+abbrev listed : tie.After-listed → tie.After-list-volume
+listed c = c .before .before .before
+
 -- the text lies in the room that was lent
-within : (c : tie.After-known-told) → c .before .listed .given .0 .0 ≤ length (c .before .before .before .before .list-volume .last .1 .0)
+within : (c : tie.After-known-told) → c .before .listed .given .0 .0 ≤ length (listed (c .before) .list-volume .last .1 .0)
 within c =
     let told = c .before in
-    let l = told .before .before .before .list-volume in
+    let l = listed told .list-volume in
     rw (l .kept .1 .0) (listed-within _ _ _ _ (l .ensures .0) _ (told .listed .given .1))
 
 large-buffer-requires : tie.Need-large-buffer-requires

@@ -74,7 +74,7 @@ returns c =
     )
 
 put-lines-requires-2 : tie.Need-put-lines-requires-2
-put-lines-requires-2 c κs = few (c .before .before .before .before .before .before .before)
+put-lines-requires-2 c κs = let measuring = c .before .before .before .before in few (opened measuring)
 
 same-length-2 : tie.Need-same-length-2
 same-length-2 c = search needs

@@ -80,9 +80,8 @@ loop-again c =
       search needs,
       search needs,
       search needs,
-      map-more _ _ _ (long start) _ (l .room) (l .end) (l .first) (l .i) (l .inv .4)
-          (first .wide .result) (second .wide2 .result) _ _ (search needs) (first .wide .ensures .0) (second .wide2 .ensures .0)
-          (put .put-line .ensures .0) (put .put-line .ensures .1 .0),
+      map-more _ _ _ (long start) _ (l .room) (l .end) (l .first) (l .i) (l .inv .4) (first .wide .result) (second .wide2 .result) _ _ _
+          (search needs) (first .wide .ensures .0) (second .wide2 .ensures .0) (put .put-line .ensures .0) (put .put-line .ensures .1 .0) (omega arith),
     )
 
 same-length : tie.Need-same-length Inv-loop μ-loop

@@ -71,10 +71,10 @@ pub record Spelled (k x at : ℕ) (before room : List ℕ) (rest i : ℕ) : Type
 pub spelled-start : (k x at : ℕ) (room : List ℕ) → Spelled k x at room room x k
 spelled-start k x at room = record { tail = []; same = sym (append-nil (digits k x)); stored = refl }
 
-pub spelled-next : (k x at : ℕ) (before room : List ℕ) (rest i : ℕ) → 0 < i → Spelled k x at before room rest i
+spelled-step : (k x at : ℕ) (before room : List ℕ) (rest i : ℕ) → 0 < i → Spelled k x at before room rest i
     → Spelled k x at before (sets room (at + (i - 1)) (leBytes 1 (48 + rest % 10))) (rest / 10) (i - 1)
 unfolding digits leBytes
-spelled-next k x at before room rest i h s =
+spelled-step k x at before room rest i h s =
     let d = 48 + rest % 10 in
     let e : i ≡ suc (i - 1) = omega arith in
     let small : d % 256 ≡ d = omega arith in
@@ -88,6 +88,11 @@ spelled-next k x at before room rest i h s =
           ∙ set-sets (s .tail) before (at + i) (at + (i - 1)) d (omega arith)
           ∙ ap (λ (y : ℕ). sets (set before (at + (i - 1)) d) y (s .tail)) (sym place);
     }
+
+pub spelled-next : (k x at : ℕ) (before room after : List ℕ) (rest i j digit fewer : ℕ) → 0 < i → Spelled k x at before room rest i
+    → after ≡ sets room j (leBytes 1 digit) → j ≡ at + (i - 1) → digit ≡ 48 + rest % 10 → fewer ≡ rest / 10
+    → Spelled k x at before after fewer (i - 1)
+spelled-next k x at before room after rest i j digit fewer h s e p q r = rw (e, p, q, r) (spelled-step k x at before room rest i h s)
 
 pub spelled-end : (k x at : ℕ) (before room : List ℕ) (rest i : ℕ) → i ≤ 0 → Spelled k x at before room rest i → room ≡ sets before at (digits k x)
 unfolding digits
