@@ -11,7 +11,7 @@ use Rattle.block_service.specs.Erase.{endOfList}
 use Rattle.block_service.specs.Service.{Result, erasedAnswer, result, step, eraseBlocks, write}
 use Rattle.block_service.specs.declared.service.Erased.{Erased}
 use Rattle.block_service.specs.declared.service.Erased.the-variants as Erased
-use Rattle.block_service.proofs.service.Effects.{refused-changes-nothing}
+use Rattle.block_service.proofs.service.Steps.{refused-changes-nothing}
 use Rattle.example.specs.Mask.{masked, unlessAnswered, putMask}
 
 module _ (v mask : List ℕ) (base block : ℕ) (opening : Opening) (st : State) (o : opens (openingAnswer opening) st ≡ openVolume v base) where
@@ -35,4 +35,3 @@ module _ (v mask : List ℕ) (base block : ℕ) (opening : Opening) (st : State)
         → masked a written ≡ putMask v base block mask
     unfolding putMask unlessAnswered openingAnswer erasedAnswer
     mask-written told a written w = rw (← o, success-told, ← e, told, ← w)
-

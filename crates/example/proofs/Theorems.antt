@@ -12,6 +12,10 @@ use Rattle.block_service.specs.declared.blocks.Place.the-variants.{At}
 use Rattle.example.specs.Mask.{putMask}
 use Rattle.example.proofs.Masks as Masks
 
+-- a refusal, whichever call it comes from, changes no byte
+pub refused-keeps : (v mask : List ℕ) (base block n : ℕ) → putMask v base block mask .answer ≡ refused n → putMask v base block mask .volume ≡ v
+refused-keeps = Masks.refused-keeps
+
 -- a mask that was put with success is there, bit for bit, whatever stood in the block: no old bit is merged into it
 pub mask-there : (v mask : List ℕ) (base block k : ℕ) → putMask v base block mask .answer ≡ success (k ∷ [])
     → (st : State) → openVolume v base ≡ opened st → (e s l r : ℕ) → place (mapOf st) block ≡ At e s l r

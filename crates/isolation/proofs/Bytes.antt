@@ -148,11 +148,11 @@ module _ (X : ℕ → Type 0) (st : State) (v w : List ℕ) (c : Call) (h : leng
   unfolding step
   other-step = ap (λ (n : ℕ). perform st w (bufferOf c) (decide st n c)) (sym h)
 
-  pub call-answer : step st v c .answer ≡ step st w c .answer
+  call-answer : step st v c .answer ≡ step st w c .answer
   unfolding step
   call-answer = same-answer st (bufferOf c) (decide st (length v) c) v w ∙ sym (ap (λ (r : Result). r .answer) other-step)
 
-  pub call-state : step st v c .state ≡ step st w c .state
+  call-state : step st v c .state ≡ step st w c .state
   unfolding step
   call-state = same-state st (bufferOf c) (decide st (length v) c) v w ∙ sym (ap (λ (r : Result). r .state) other-step)
 

@@ -22,11 +22,10 @@ use Rattle.block_service.specs.declared.blocks.Place.the-variants.{At, Missing}
 use Rattle.volume.specs.declared.state.State.{State}
 use Rattle.isolation.specs.Runs.{run, seen, isSuccess, isMoved, namesBlock, erased, Alike, NoEarlyRead, NeverErased, Isolated}
 use Rattle.block_service.proofs.blocks.Places.{inBlock-blockAt, inBlock-of-bounds, in-one-block, found-start, found-end, place-lost}
-use Rattle.block_service.proofs.service.Effects.{passed-success, passed-read}
 use Rattle.block_service.proofs.service.Kept.{map-kept, lawful-kept}
 use Rattle.volume.proofs.header.Reading.{opened-lawful}
-use Rattle.block_service.proofs.service.Steps.{allowed-step}
-use Rattle.isolation.proofs.Bytes.{erasesByte, isErase, copiesByte, erasedInRun, Without, Unread, same-runs, call-answer, call-state}
+use Rattle.block_service.proofs.service.Steps.{allowed-step, passed-success, passed-read}
+use Rattle.isolation.proofs.Bytes.{erasesByte, isErase, copiesByte, erasedInRun, Without, Unread, same-runs}
 
 -- ---- Booleans
 
@@ -242,9 +241,3 @@ pub opened-run-lawful : (base : ℕ) (st : State) (v : List ℕ) (before : List 
 opened-run-lawful base st v before opening =
     run-lawful st v before
     (subst (λ (o : Opens). unlawful (o .state) ≡ false) opening (opened-lawful v base (ap (λ (o : Opens). o .answer) opening) .0))
-
--- later calls follow the state and never read the header, or any other byte, to decide: on volumes of one length a call answers the same and leaves
--- the same state, whatever the bytes are
-pub decided-without-bytes : (st : State) (v w : List ℕ) (c : Call) → length v ≡ length w
-    → (step st v c .answer ≡ step st w c .answer) × (step st v c .state ≡ step st w c .state)
-decided-without-bytes st v w c h = (call-answer (λ i. ⊥) st v w c h, call-state (λ i. ⊥) st v w c h)

@@ -11,9 +11,6 @@ use crate::script::number;
 use crate::script::prefix;
 use crate::script::prepare;
 use crate::script::words_of;
-use numbers::store_bytes;
-use numbers::u32_at;
-use volume::open_volume;
 use block_service::Address;
 use block_service::BlockSize;
 use block_service::Erased;
@@ -26,7 +23,10 @@ use block_service::get_physical_address;
 use block_service::read;
 use block_service::set_attributes;
 use block_service::write;
+use numbers::store_bytes;
+use numbers::u32_at;
 use volume::State;
+use volume::open_volume;
 
 // A run: the lent length and the base at opening, the header's bytes and the pattern behind them, a
 // state in place of the one that opening answers (empty for none), the calls.

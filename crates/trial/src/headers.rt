@@ -17,10 +17,10 @@ use listing::list_volume;
 use numbers::store_bytes;
 use volume::Opened;
 use volume::Opening;
-use volume::open_volume;
-use volume::Written;
-use volume::write_header;
 use volume::State;
+use volume::Written;
+use volume::open_volume;
+use volume::write_header;
 
 // The most bytes of a volume that is opened.
 const VOLUME: usize = 4096;
