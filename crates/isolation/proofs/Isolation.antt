@@ -15,7 +15,8 @@ use Rattle.volume.specs.BlockMap.{blocks}
 use Rattle.block_service.specs.Blocks.{place, inBlock, startOf, lengthOf}
 use Rattle.block_service.specs.Erase.{names, eraseChange}
 use Rattle.volume.specs.Header.{Opens, opened, openVolume}
-use Rattle.block_service.specs.Service.{Call, getAttributes, setAttributes, getPhysicalAddress, getBlockSize, read, write, eraseBlocks, Effect, reply, refusals, effect, decide, moveAnswer, Result, perform, step}
+use Rattle.block_service.specs.Service.{Call, getAttributes, setAttributes, getPhysicalAddress, getBlockSize, read, write, eraseBlocks}
+use Rattle.block_service.specs.Service.{Effect, reply, refusals, effect, decide, moveAnswer, Result, perform, step}
 use Rattle.volume.specs.State.{mapOf, unlawful}
 use Rattle.block_service.specs.declared.blocks.Place.{Place}
 use Rattle.block_service.specs.declared.blocks.Place.the-variants.{At, Missing}

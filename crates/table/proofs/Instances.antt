@@ -57,9 +57,25 @@ allowed D st v (c ∷ cs) k (x ∷ before) after b o buffer e d m =
     unless-first true r f = tt
     unless-first false r f = f tt
 
--- everything that the two runs compute with
+-- everything that the two runs compute with: opening, the calls, and runs
+opening : Unit {0}
+unfolding headerA sampleA openVolume stateAt stateOf stateWith wordsAt wordSum openRefusals headerLengthFault mapFault firstRefusal any le
+opening = tt
+
+judging : Unit {0}
+unfolding attributesFault baseFault blocks bytes hasZero allZero sizeFault mapOf unlawful settingRefusals changesFixed raises clears lacksCapability
+judging = tt
+
+moving : Unit {0}
+unfolding place placeFrom startOf lengthOf leftOf holds inBlock blockAt countMoved writtenByte goodList names erasedByte writeChange eraseChange changedByte edit
+moving = tt
+
+calling : Unit {0}
+unfolding refusals lentRefusals moveAnswer effect decide withAttributes perform bufferOf step isSuccess isMoved namesBlock erased run
+calling = tt
+
 computed : Unit {0}
-unfolding headerA sampleA openVolume stateAt stateOf stateWith wordsAt wordSum openRefusals headerLengthFault mapFault firstRefusal any le attributesFault baseFault blocks bytes hasZero allZero sizeFault mapOf unlawful place placeFrom startOf lengthOf leftOf holds inBlock blockAt countMoved writtenByte goodList names erasedByte changesFixed raises clears lacksCapability settingRefusals refusals lentRefusals moveAnswer writeChange eraseChange effect decide withAttributes edit changedByte perform bufferOf step isSuccess isMoved namesBlock erased run
+unfolding opening judging moving calling
 computed = tt
 
 -- sample A with byte 1024, the first of block 2, changed

@@ -79,8 +79,29 @@ pub record Table : Type 0 where
   pub P13 : searchOf stream 0x19 1 ≡ success (12 ∷ 12 ∷ [])
   pub P13-none : searchOf stream 0x19 2 ≡ refused 14
 
+-- everything that the rows compute with: opening, the calls, and sections
+opening : Unit {0}
+unfolding headerA sampleA openVolume stateAt stateOf stateWith zeroState wordsAt wordSum openRefusals headerLengthFault mapFault firstRefusal any le numberOf valuesOf
+opening = tt
+
+judging : Unit {0}
+unfolding attributesFault baseFault blocks bytes hasZero allZero sizeFault mapOf unlawful settingRefusals changesFixed raises clears lacksCapability
+judging = tt
+
+moving : Unit {0}
+unfolding place placeFrom startOf lengthOf leftOf blockAt countMoved writtenByte goodList names erasedByte writeChange eraseChange changedByte edit
+moving = tt
+
+calling : Unit {0}
+unfolding refusals lentRefusals moveAnswer effect decide withAttributes perform bufferOf step
+calling = tt
+
+searching : Unit {0}
+unfolding infoAmong typeInfo headAt headFaults sectionAt packed contentsAt wrongContents streamWalk walk siblings meet afterPadding zeros andThen
+searching = tt
+
 pub table : Table
-unfolding stateA onA after badSum stream numberOf valuesOf headerA sampleA firstRefusal any le countMoved writtenByte attributesFault baseFault blocks bytes hasZero allZero sizeFault place placeFrom startOf lengthOf leftOf blockAt goodList names erasedByte openVolume stateAt wordsAt wordSum openRefusals headerLengthFault mapFault refusals lentRefusals moveAnswer writeChange eraseChange effect decide withAttributes edit changedByte perform bufferOf step changesFixed raises clears lacksCapability settingRefusals mapOf stateOf stateWith zeroState unlawful infoAmong typeInfo headAt headFaults sectionAt packed contentsAt wrongContents streamWalk walk siblings meet afterPadding zeros andThen searchOf sections firstFault ofType
+unfolding opening judging moving calling searching stateA onA after badSum stream searchOf sections firstFault ofType
 table =
     record {
       P1 = refl;
