@@ -7,7 +7,6 @@ use mathlib.Core.Option.{Option, none, some, Option·none-ne-some}
 use native.Mathlib.Omega.{arith}
 use lib.Dec.{lit<}
 use lib.ListN.{length, getD, length-append}
-use Rattle.common.specs.Answers.{refused}
 use Rattle.common.specs.Refusals.{Row, firstRefusal}
 use Rattle.numbers.proofs.LittleEndian.{le-bound}
 use Rattle.volume.specs.Header.{attributesAt, entriesOf, guidAt, headerLengthAt, lengthAt, mapStart, openRefusals, openVolume, opened, stateAt, wordsAt}
