@@ -7,7 +7,7 @@ use Rattle.common.specs.Answers.{refused, success}
 use Rattle.volume.specs.Header.{openVolume, opened}
 use Rattle.volume.specs.State.{mapOf, stateOf, stateWith}
 use Rattle.volume.specs.declared.state.State.{State}
-use Rattle.listing.specs.Decimal.{decimal, digits, places, placesFrom}
+use Rattle.listing.specs.Decimal.{decimal, digits, places, placesFrom, zeroDigit}
 use Rattle.listing.specs.Listing.{field, line, linesOf, listVolume, listedRoom, listing, mapLines, maxListing, refusedLine, volumeLine}
 use Rattle.listing.proofs.Lines.{lines-opened, lines-refused}
 use Rattle.listing.proofs.Longest.{listing-short}
@@ -32,10 +32,10 @@ pub refusal-lists : (s : List ℕ) (n : ℕ) → openVolume s 0 .answer ≡ refu
 refusal-lists = lines-refused
 
 -- a number's text: one digit, or the text of a tenth of it and its last digit
-pub one-digit : (n : ℕ) → n < 10 → decimal n ≡ (48 + n) ∷ []
+pub one-digit : (n : ℕ) → n < 10 → decimal n ≡ (zeroDigit + n) ∷ []
 one-digit = decimal-one
 
-pub more-digits : (n : ℕ) → 10 ≤ n → decimal n ≡ decimal (n / 10) ++ ((48 + n % 10) ∷ [])
+pub more-digits : (n : ℕ) → 10 ≤ n → decimal n ≡ decimal (n / 10) ++ ((zeroDigit + n % 10) ∷ [])
 more-digits = decimal-more
 
 -- 5: "output room too short"; "no lent byte changes"
