@@ -1,4 +1,5 @@
--- Laws of the listing's lines: pieces of text stored one after the other, and the map's lines one entry at a time.
+-- Laws of the listing's lines: pieces of text stored one after the other, the map's lines one entry at a time, and the lines of what
+-- opening answered.
 use Prim.Native.Nat.{ℕ, _+_, _*_, _≤_, _<_}
 use mathlib.Core.Path.{_≡_, refl, sym, ap, _∙_}
 use mathlib.Core.List.{List, [], _++_}
@@ -6,7 +7,11 @@ use native.Mathlib.Omega.{arith}
 use lib.ListN.{length, getD, take, drop, drop-of-length-le, length-append}
 use lib.Seq.{sets, getD-take, length-take-le}
 use Rattle.common.proofs.Lists.{sets-append, drop-two}
-use Rattle.listing.specs.Listing.{mapLine, mapLines}
+use Rattle.common.specs.Answers.{refused}
+use Rattle.volume.specs.Header.{openVolume, opened}
+use Rattle.volume.specs.State.{mapOf}
+use Rattle.volume.specs.declared.state.State.{State}
+use Rattle.listing.specs.Listing.{linesOf, listing, mapLine, mapLines, refusedLine, volumeLine}
 
 -- a piece of text after another
 pub sets-then : (a b r : List ℕ) (at j : ℕ) → j ≡ at + length a → sets r at (a ++ b) ≡ sets (sets r at a) j b
@@ -85,3 +90,14 @@ module _ (n : ℕ) (map : List ℕ) (at : ℕ) where
         let zero = ap length none in
         let ends = left .ends in
         (omega arith, sym (left .stored ∙ ap (λ (x : List ℕ). sets room end x) none))
+
+-- ---- what opening answered
+
+pub lines-opened : (s : List ℕ) (st : State) → openVolume s 0 ≡ opened st
+    → listing s ≡ volumeLine (st .length) (st .attributes) (st .entries) ++ mapLines 0 (mapOf st)
+unfolding listing linesOf
+lines-opened s st e = rw e
+
+pub lines-refused : (s : List ℕ) (n : ℕ) → openVolume s 0 .answer ≡ refused n → listing s ≡ refusedLine n
+unfolding listing linesOf
+lines-refused s n e = rw e

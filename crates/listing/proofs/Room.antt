@@ -7,7 +7,7 @@ use native.Mathlib.Omega.{arith}
 use borrow.Author.Tests.{lt-ltb, le-ltb, ltb-true, ltb-false}
 use lib.Dec.{ltb}
 use lib.ListN.{length, drop}
-use Rattle.common.specs.Answers.{Answer, refused, success}
+use Rattle.common.specs.Answers.{refused, success}
 use Rattle.common.specs.Refusals.{firstRefusal}
 use Rattle.listing.specs.Listing.{listing, ListedRoom, listedRoom, listedAnswer, listVolume}
 use Rattle.listing.specs.declared.Listed.{Listed}

@@ -76,7 +76,7 @@ maxField = 1 + maxDigits
 abbrev pub maxLine : List ℕ → ℕ
 maxLine word = length word + 3 * maxField + 1
 
--- the length that no listing of a volume's bytes exceeds: 70 bytes of the volume's line and 67 of each of 32 map lines
+-- the length that no listing of a volume's bytes exceeds, 2,214: the volume's line of 70 bytes and 32 map lines of 67
 abbrev pub maxListing : ℕ
 maxListing = maxLine volumeWord + maxLine mapWord * maxEntries
 

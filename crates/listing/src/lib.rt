@@ -25,9 +25,9 @@ pub enum Listed {
     Refused(u16),
 }
 
-// Lists a volume at base 0: stores its lines at the start of the room and answers their length. A
-// volume that does not open is listed as refused. Where the room is too short nothing is stored; one of
-// `maxListing` bytes never is.
+// Lists a volume at base 0: stores its lines at the start of the room and answers their length. A volume
+// that does not open is listed by its refusal. Where the room is too short it answers 5 and stores nothing;
+// a room of 2,214 bytes (`maxListing`) is never too short.
 pub fn list_volume(volume: &[u8], room: &mut [u8]) -> Listed
     ensures { λ r. ⌜ listedRoom (listedAnswer r) (now (room .exit)) ≡ listVolume (now (volume .entry)) (now (room .entry)) ⌝ }
     ensures { λ _. ⌜ length (listing (now (volume .entry))) ≤ maxListing ⌝ }

@@ -6,6 +6,11 @@ ghost use lib.Seq.{sets};
 ghost use Rattle.listing.specs.Decimal.{digits, maxDigits, places};
 ghost use Rattle.listing.specs.Listing.{field, maxField};
 
+const TAB: u64 = 9;
+
+// The digit 0, in ASCII.
+const ZERO: u64 = 48;
+
 // Stores a word, and answers the place after it.
 pub(crate) fn put_word(room: &mut [u8], at: usize, word: &[u8]) -> usize
     requires { ⌜ at + length (now word) < 2 ^ 64 ⌝ }
@@ -21,7 +26,7 @@ pub(crate) fn put_field(room: &mut [u8], at: usize, x: u64) -> usize
     ensures { λ r. ⌜ (r ≡ at + length (field x)) × (now (room .exit) ≡ sets (now (room .entry)) at (field x)) × (r ≤ at + maxField) ⌝ }
 {
     let k = count_digits(x);
-    numbers::store(room, at, 1, 9);
+    numbers::store(room, at, 1, TAB);
     put_digits(room, at + 1, k, x);
     at + 1 + k
 }
@@ -48,7 +53,7 @@ fn put_digits(room: &mut [u8], at: usize, k: usize, x: u64)
     let mut i = k;
     while 0 < i {
         i -= 1;
-        numbers::store(room, at + i, 1, 48 + rest % 10);
+        numbers::store(room, at + i, 1, ZERO + rest % 10);
         rest = rest / 10;
     }
 }

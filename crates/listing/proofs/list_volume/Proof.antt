@@ -10,7 +10,7 @@ use lib.Seq.{sets}
 use Rattle.common.specs.Answers.{refused, success}
 use Rattle.common.proofs.Lists.{sets-past, sets-front}
 use Rattle.volume.specs.BlockMap.{maxEntries}
-use Rattle.volume.specs.Header.{Opens, openVolume, openingAnswer}
+use Rattle.volume.specs.Header.{Opens, openingAnswer}
 use Rattle.volume.proofs.header.Fields.{opened-entries}
 use Rattle.listing.specs.Listing.{linesOf, listedAnswer, listedRoom, listing, maxListing}
 use Rattle.listing.proofs.Room.{list-refused, list-done}

@@ -11,7 +11,7 @@ use lib.ListN.{length, set, length-append}
 use lib.Seq.{sets}
 use Rattle.common.proofs.Lists.{set-sets}
 use Rattle.numbers.specs.LittleEndian.{leBytes}
-use Rattle.listing.specs.Decimal.{placesFrom, places, digits, decimal}
+use Rattle.listing.specs.Decimal.{placesFrom, places, digits, decimal, zeroDigit}
 
 -- any counter that is at least the number gives the same
 places-same : (k m n : ℕ) → n ≤ k → n ≤ m → placesFrom k n ≡ placesFrom m n
@@ -27,7 +27,7 @@ places-same (suc k) (suc m) n p q = go (ltb n 10) refl (λ h. places-same k m (n
     go false e f = ap suc (f (ltb-false n 10 e))
 
 -- a number below 10 has one digit; a larger one has one more than a tenth of it
-pub places-one : (n : ℕ) → n < 10 → places n ≡ 1
+places-one : (n : ℕ) → n < 10 → places n ≡ 1
 unfolding places placesFrom
 places-one zero h = refl
 places-one (suc n) h = rw (lt-ltb (suc n) 10 h)
@@ -38,11 +38,11 @@ places-more zero h = omega arith
 places-more (suc n) h = rw (le-ltb (suc n) 10 h) (ap suc (places-same n (suc n / 10) (suc n / 10) (omega arith) (omega arith)))
 
 -- so the text of a number is its digit, or the text of a tenth of it and its last digit
-pub decimal-one : (n : ℕ) → n < 10 → decimal n ≡ (48 + n) ∷ []
+pub decimal-one : (n : ℕ) → n < 10 → decimal n ≡ (zeroDigit + n) ∷ []
 unfolding decimal digits
 decimal-one n h = let z : n % 10 ≡ n = omega arith in rw (places-one n h, z)
 
-pub decimal-more : (n : ℕ) → 10 ≤ n → decimal n ≡ decimal (n / 10) ++ ((48 + n % 10) ∷ [])
+pub decimal-more : (n : ℕ) → 10 ≤ n → decimal n ≡ decimal (n / 10) ++ ((zeroDigit + n % 10) ∷ [])
 unfolding decimal digits
 decimal-more n h = rw (places-more n h)
 
@@ -60,7 +60,7 @@ places-bound (suc k) n h = go (ltb n 10) refl (places-bound k (n / 10))
 pub length-digits : (k n : ℕ) → length (digits k n) ≡ k
 unfolding digits
 length-digits zero n = refl
-length-digits (suc k) n = rw (length-append (digits k (n / 10)) ((48 + n % 10) ∷ []), length-digits k (n / 10)) (omega arith)
+length-digits (suc k) n = rw (length-append (digits k (n / 10)) ((zeroDigit + n % 10) ∷ []), length-digits k (n / 10)) (omega arith)
 
 -- where a loop that stores digits from the last to the first stands: `tail` is stored from place i on, and digits of `rest` are left
 pub record Spelled (k x at : ℕ) (before room : List ℕ) (rest i : ℕ) : Type 0 where
@@ -72,10 +72,10 @@ pub spelled-start : (k x at : ℕ) (room : List ℕ) → Spelled k x at room roo
 spelled-start k x at room = record { tail = []; same = sym (append-nil (digits k x)); stored = refl }
 
 spelled-step : (k x at : ℕ) (before room : List ℕ) (rest i : ℕ) → 0 < i → Spelled k x at before room rest i
-    → Spelled k x at before (sets room (at + (i - 1)) (leBytes 1 (48 + rest % 10))) (rest / 10) (i - 1)
+    → Spelled k x at before (sets room (at + (i - 1)) (leBytes 1 (zeroDigit + rest % 10))) (rest / 10) (i - 1)
 unfolding digits leBytes
 spelled-step k x at before room rest i h s =
-    let d = 48 + rest % 10 in
+    let d = zeroDigit + rest % 10 in
     let e : i ≡ suc (i - 1) = omega arith in
     let small : d % 256 ≡ d = omega arith in
     let place : suc (at + (i - 1)) ≡ at + i = omega arith in
@@ -90,7 +90,7 @@ spelled-step k x at before room rest i h s =
     }
 
 pub spelled-next : (k x at : ℕ) (before room after : List ℕ) (rest i j digit fewer : ℕ) → 0 < i → Spelled k x at before room rest i
-    → after ≡ sets room j (leBytes 1 digit) → j ≡ at + (i - 1) → digit ≡ 48 + rest % 10 → fewer ≡ rest / 10
+    → after ≡ sets room j (leBytes 1 digit) → j ≡ at + (i - 1) → digit ≡ zeroDigit + rest % 10 → fewer ≡ rest / 10
     → Spelled k x at before after fewer (i - 1)
 spelled-next k x at before room after rest i j digit fewer h s e p q r = rw (e, p, q, r) (spelled-step k x at before room rest i h s)
 

@@ -1,6 +1,6 @@
 -- `listing::text::put_digits` meets its contract: the last digits are stored, and those of what is left come before them.
 use Prim.Native.Nat.{_≤_}
-use mathlib.Core.Path.{_≡_, _∙_}
+use mathlib.Core.Path.{_≡_}
 use native.Mathlib.Omega.{arith}
 use borrow.Author.Needs.{needs}
 use lib.ListN.{length}
