@@ -57,8 +57,9 @@ pub fn append(buffer: &mut [u8], used: usize, section_type: u8, body: &[u8]) -> 
     Appended::Used(end)
 }
 
-// Stores padding, header and body from byte `used` on. The body goes by the kit's plain loop over two slices, which an archive has
-// as a loop of 32-byte moves behind a test of overlap; `numbers::store`, at any place, tests a bound at every byte.
+// Stores padding, header and body from byte `used` on. The body goes by the kit's plain loop over two
+// slices, which in an archive is a loop of 32-byte moves behind a test of overlap; `numbers::store`,
+// at any place, tests a bound at every byte.
 fn store_leaf(buffer: &mut [u8], used: usize, section_type: u8, body: &[u8])
     requires { ⌜ (usedAfter used (length (now body)) ≤ length (now buffer)) × (usedAfter used (length (now body)) < 2 ^ 63) ⌝ }
     ensures { λ _. ⌜ now (buffer .exit) ≡ sets (now (buffer .entry)) used (added used «section_type» (now (body .entry))) ⌝ }

@@ -15,6 +15,7 @@ use Rattle.common.specs.Refusals.{unlessRefused}
 use Rattle.sections.specs.Walk.{Trace, done, fault, section, walk, streamLimit, streamWalk}
 use Rattle.sections.specs.Seek.{run, seekAnswer}
 use Rattle.sections.specs.Search.{Section, sections, firstFault, ofType, partAnswer, searchOf, WellFormed, countOf}
+use Rattle.sections.specs.declared.walk.Seek.{Seek}
 use Rattle.sections.specs.declared.walk.Seek.the-variants.{Left}
 use Rattle.sections.proofs.walk.Carried.{run-answer}
 use Rattle.sections.proofs.walk.Inside.{Inside, inside-walk}
@@ -24,9 +25,10 @@ pub search-206 : (s : List ℕ) (t instance : ℕ) → streamLimit < length s �
 unfolding searchOf streamWalk firstFault
 search-206 s t instance h = rw (lt-ltb streamLimit (length s) h)
 
-pub search-walk : (s : List ℕ) (t instance : ℕ) → length s ≤ streamLimit → seekAnswer (run t (Left instance) (walk 7 s 0)) ≡ searchOf s t instance
+pub search-walk : (s : List ℕ) (t instance : ℕ) {below base : ℕ} {a : Seek} → a ≡ run t (Left instance) (walk below s base)
+    → below ≡ 7 → base ≡ 0 → length s ≤ streamLimit → seekAnswer a ≡ searchOf s t instance
 unfolding searchOf streamWalk
-search-walk s t instance h = rw (le-ltb streamLimit (length s) h) (run-answer t instance (walk 7 s 0))
+search-walk s t instance walked l b h = rw (walked, l, b, le-ltb streamLimit (length s) h) (run-answer t instance (walk 7 s 0))
 
 -- a section of a type on the walk lies where the walk does
 inside-nth : (low high w i : ℕ) (t : Trace) (x : Section) → Inside low high t → getElem? (ofType w (sections t)) i ≡ some x

@@ -1,7 +1,6 @@
 -- `search` meets its contract: 206, or the answer at the end of the walk.
-use mathlib.Core.Path.{_∙_, ap, sym}
+use mathlib.Core.Path.{_∙_, sym}
 use borrow.Author.Needs.{needs}
-use Rattle.sections.specs.Seek.{seekAnswer}
 use Rattle.sections.proofs.search.Shown.{search-206, search-walk}
 use Rattle.sections.proofs.search.search.Statement.{statement}
 use Rattle.sections.proofs.search.search.Tie as tie
@@ -16,7 +15,7 @@ answer-requires : tie.Need-answer-requires
 answer-requires c κs = search needs
 
 returns-2 : tie.Need-returns-2
-returns-2 c = c .answer .ensures ∙ ap seekAnswer (c .before .walk-stream .ensures) ∙ search-walk _ _ _ (search needs)
+returns-2 c = c .answer .ensures ∙ search-walk _ _ _ (c .before .walk-stream .ensures) (search needs) (search needs) (search needs)
 
 pub search-spec : {M : Type 1} → statement M
 search-spec = tie.close (tie.spec returns walk-stream-requires answer-requires returns-2)
