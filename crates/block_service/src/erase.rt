@@ -64,7 +64,8 @@ fn pair_fits(total: u64, first: u64, count: u64) -> bool
 {
     if 0 < count {
         if first < total {
-            return count <= total - first;
+            let left = total - first;
+            return count <= left;
         }
     }
     false

@@ -4,8 +4,8 @@ use Rattle.block_service.proofs.erase.Lists.{fits-within, fits-none, fi
 use Rattle.block_service.proofs.erase.pair_fits.Statement.{statement}
 use Rattle.block_service.proofs.erase.pair_fits.Tie as tie
 
-sub-result : tie.Need-sub-result
-sub-result c = search needs
+sub-left : tie.Need-sub-left
+sub-left c = search needs
 
 returns : tie.Need-returns
 returns c = let a = c .before .before .args in fits-within (a .total) (a .first) (a .count) (search needs) (search needs)
@@ -17,4 +17,4 @@ returns-3 : tie.Need-returns-3
 returns-3 c = let a = c .before .args in fits-none (a .total) (a .first) (a .count) (search needs)
 
 pub pair-fits-spec : {M : Type 1} → statement M
-pair-fits-spec = tie.close (tie.spec sub-result returns returns-2 returns-3)
+pair-fits-spec = tie.close (tie.spec sub-left returns returns-2 returns-3)
