@@ -1,3 +1,4 @@
 pub mod Edit
 pub mod Lists
 pub mod Refusals
+pub mod Theorems

@@ -27,13 +27,13 @@ isErase erase = true
 
 unfoldable pub erasesByte : Effect → ℕ → Bool
 erasesByte (reply a) i = false
-erasesByte (setTo new) i = false
+erasesByte (setTo next a) i = false
 erasesByte (copyOut at count a) i = false
 erasesByte (change f a) i = isErase (f i)
 
 unfoldable pub copiesByte : Effect → ℕ → Bool
 copiesByte (reply a) i = false
-copiesByte (setTo new) i = false
+copiesByte (setTo next a) i = false
 copiesByte (copyOut at count a) i = leb at i && ltb i (at + count)
 copiesByte (change f a) i = false
 
@@ -64,21 +64,21 @@ module _ (st : State) (buffer : List ℕ) where
   same-answer : (e : Effect) (v w : List ℕ) → perform st v buffer e .answer ≡ perform st w buffer e .answer
   unfolding perform
   same-answer (reply a) v w = refl
-  same-answer (setTo new) v w = refl
+  same-answer (setTo next a) v w = refl
   same-answer (copyOut at n a) v w = refl
   same-answer (change f a) v w = refl
 
   same-state : (e : Effect) (v w : List ℕ) → perform st v buffer e .state ≡ perform st w buffer e .state
   unfolding perform
   same-state (reply a) v w = refl
-  same-state (setTo new) v w = refl
+  same-state (setTo next a) v w = refl
   same-state (copyOut at n a) v w = refl
   same-state (change f a) v w = refl
 
   same-length : (e : Effect) (v w : List ℕ) → length v ≡ length w → length (perform st v buffer e .volume) ≡ length (perform st w buffer e .volume)
   unfolding perform
   same-length (reply a) v w h = h
-  same-length (setTo new) v w h = h
+  same-length (setTo next a) v w h = h
   same-length (copyOut at n a) v w h = h
   same-length (change f a) v w h = length-edit _ 0 v ∙ h ∙ sym (length-edit _ 0 w)
 
@@ -87,7 +87,7 @@ module _ (st : State) (buffer : List ℕ) where
       → perform st v buffer e .buffer ≡ perform st w buffer e .buffer
   unfolding perform copiesByte
   same-buffer X (reply a) v w h g k = refl
-  same-buffer X (setTo new) v w h g k = refl
+  same-buffer X (setTo next a) v w h g k = refl
   same-buffer X (copyOut at n a) v w h g k =
       ap (λ (l : List ℕ). l ++ drop n buffer)
       (ext-getD 0 (take n (drop at v)) (take n (drop at w)) (simp (length-take, length-drop, h))
@@ -102,7 +102,7 @@ module _ (st : State) (buffer : List ℕ) where
       → Agree (Without X e) (perform st v buffer e .volume) (perform st w buffer e .volume)
   unfolding perform erasesByte isErase changedByte
   same-bytes X (reply a) v w h g i k = g i (λ x. k (x, tt))
-  same-bytes X (setTo new) v w h g i k = g i (λ x. k (x, tt))
+  same-bytes X (setTo next a) v w h g i k = g i (λ x. k (x, tt))
   same-bytes X (copyOut at n a) v w h g i k = g i (λ x. k (x, tt))
   same-bytes X (change f a) v w h g i k = go (ltb i (length v)) refl
     where
@@ -148,11 +148,11 @@ module _ (X : ℕ → Type 0) (st : State) (v w : List ℕ) (c : Call) (h : leng
   unfolding step
   other-step = ap (λ (n : ℕ). perform st w (bufferOf c) (decide st n c)) (sym h)
 
-  pub call-answer : step st v c .answer ≡ step st w c .answer
+  call-answer : step st v c .answer ≡ step st w c .answer
   unfolding step
   call-answer = same-answer st (bufferOf c) (decide st (length v) c) v w ∙ sym (ap (λ (r : Result). r .answer) other-step)
 
-  pub call-state : step st v c .state ≡ step st w c .state
+  call-state : step st v c .state ≡ step st w c .state
   unfolding step
   call-state = same-state st (bufferOf c) (decide st (length v) c) v w ∙ sym (ap (λ (r : Result). r .state) other-step)
 

@@ -15,18 +15,18 @@ use Rattle.volume.specs.BlockMap.{blocks}
 use Rattle.block_service.specs.Blocks.{place, inBlock, startOf, lengthOf}
 use Rattle.block_service.specs.Erase.{names, eraseChange}
 use Rattle.volume.specs.Header.{Opens, opened, openVolume}
-use Rattle.block_service.specs.Service.{Call, getAttributes, setAttributes, getPhysicalAddress, getBlockSize, read, write, eraseBlocks, Effect, reply, refusals, effect, decide, moveAnswer, Result, perform, step}
+use Rattle.block_service.specs.Service.{Call, getAttributes, setAttributes, getPhysicalAddress, getBlockSize, read, write, eraseBlocks}
+use Rattle.block_service.specs.Service.{Effect, reply, refusals, effect, decide, moveAnswer, Result, perform, step}
 use Rattle.volume.specs.State.{mapOf, unlawful}
 use Rattle.block_service.specs.declared.blocks.Place.{Place}
 use Rattle.block_service.specs.declared.blocks.Place.the-variants.{At, Missing}
 use Rattle.volume.specs.declared.state.State.{State}
 use Rattle.isolation.specs.Runs.{run, seen, isSuccess, isMoved, namesBlock, erased, Alike, NoEarlyRead, NeverErased, Isolated}
 use Rattle.block_service.proofs.blocks.Places.{inBlock-blockAt, inBlock-of-bounds, in-one-block, found-start, found-end, place-lost}
-use Rattle.block_service.proofs.service.Effects.{passed-success, passed-read}
 use Rattle.block_service.proofs.service.Kept.{map-kept, lawful-kept}
 use Rattle.volume.proofs.header.Reading.{opened-lawful}
-use Rattle.block_service.proofs.service.Steps.{allowed-step}
-use Rattle.isolation.proofs.Bytes.{erasesByte, isErase, copiesByte, erasedInRun, Without, Unread, same-runs, call-answer, call-state}
+use Rattle.block_service.proofs.service.Steps.{allowed-step, passed-success, passed-read}
+use Rattle.isolation.proofs.Bytes.{erasesByte, isErase, copiesByte, erasedInRun, Without, Unread, same-runs}
 
 -- ---- Booleans
 
@@ -148,10 +148,13 @@ read-copies st v b o buffer i t = go (firstRefusal (refusals st (length v) (read
     go (some n) e t = absurd t
 
 -- and no other call copies out any
-quiet : (o : Option ℕ) (e : Effect) (i : ℕ) → (T (copiesByte e i) → ⊥) → T (copiesByte (unlessRefused (λ n. reply (refused n)) o e) i) → ⊥
-unfolding copiesByte
-quiet none e i h t = h t
-quiet (some n) e i h t = t
+quiet : (st : State) (n : ℕ) (c : Call) (i : ℕ) → (T (copiesByte (effect st c) i) → ⊥) → T (copiesByte (decide st n c) i) → ⊥
+unfolding decide copiesByte
+quiet st n c i h = go (firstRefusal (refusals st n c))
+  where
+    go : (o : Option ℕ) → T (copiesByte (unlessRefused (λ m. reply (refused m)) o (effect st c)) i) → ⊥
+    go none t = h t
+    go (some m) t = t
 
 -- a byte of a set of blocks
 abbrev pub InBlocks : List ℕ → (ℕ → Type 0) → ℕ → Type 0
@@ -161,16 +164,16 @@ InBlocks map D i = (b : ℕ) × D b × T (inBlock map b i)
 call-unread : (D : ℕ → Type 0) (st : State) (v : List ℕ) (c : Call)
     → ((b o : ℕ) (buffer : List ℕ) → c ≡ read b o buffer → D b → T (isMoved (step st v (read b o buffer) .answer)) → ⊥)
     → (i : ℕ) → T (copiesByte (decide st (length v) c) i) → InBlocks (mapOf st) D i → ⊥
-unfolding decide effect copiesByte
-call-unread D st v getAttributes h i t x = quiet _ _ i (λ z. z) t
-call-unread D st v (setAttributes new) h i t x = quiet _ _ i (λ z. z) t
-call-unread D st v getPhysicalAddress h i t x = quiet _ _ i (λ z. z) t
-call-unread D st v (getBlockSize b) h i t x = quiet _ _ i (λ z. z) t
+unfolding effect copiesByte
+call-unread D st v getAttributes h i t x = quiet st (length v) getAttributes i (λ z. z) t
+call-unread D st v (setAttributes new) h i t x = quiet st (length v) (setAttributes new) i (λ z. z) t
+call-unread D st v getPhysicalAddress h i t x = quiet st (length v) getPhysicalAddress i (λ z. z) t
+call-unread D st v (getBlockSize b) h i t x = quiet st (length v) (getBlockSize b) i (λ z. z) t
 call-unread D st v (read b o buffer) h i t x =
     let p = read-copies st v b o buffer i t in
     h b o buffer refl (subst D (in-one-block (mapOf st) (x .0) b i (x .2) (p .0)) (x .1)) (p .1)
-call-unread D st v (write b o new) h i t x = quiet _ _ i (λ z. z) t
-call-unread D st v (eraseBlocks list) h i t x = quiet _ _ i (λ z. z) t
+call-unread D st v (write b o new) h i t x = quiet st (length v) (write b o new) i (λ z. z) t
+call-unread D st v (eraseBlocks list) h i t x = quiet st (length v) (eraseBlocks list) i (λ z. z) t
 
 -- a run that reads no block of the set before it was erased copies out no byte of one before it was erased
 unread : (D : ℕ → Type 0) (X : ℕ → Type 0) (st : State) (v : List ℕ) (cs : List Call) → ((i : ℕ) → X i → InBlocks (mapOf st) D i)
@@ -239,9 +242,3 @@ pub opened-run-lawful : (base : ℕ) (st : State) (v : List ℕ) (before : List 
 opened-run-lawful base st v before opening =
     run-lawful st v before
     (subst (λ (o : Opens). unlawful (o .state) ≡ false) opening (opened-lawful v base (ap (λ (o : Opens). o .answer) opening) .0))
-
--- later calls follow the state and never read the header, or any other byte, to decide: on volumes of one length a call answers the same and leaves
--- the same state, whatever the bytes are
-pub decided-without-bytes : (st : State) (v w : List ℕ) (c : Call) → length v ≡ length w
-    → (step st v c .answer ≡ step st w c .answer) × (step st v c .state ≡ step st w c .state)
-decided-without-bytes st v w c h = (call-answer (λ i. ⊥) st v w c h, call-state (λ i. ⊥) st v w c h)

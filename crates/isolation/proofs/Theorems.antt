@@ -7,7 +7,7 @@ use lib.ListN.{length}
 use Rattle.volume.specs.Header.{opened, openVolume}
 use Rattle.volume.specs.State.{mapOf, unlawful}
 use Rattle.volume.specs.declared.state.State.{State}
-use Rattle.block_service.specs.Service.{Call, step}
+use Rattle.block_service.specs.Service.{Call}
 use Rattle.isolation.specs.Runs.{run, Alike, NoEarlyRead, Isolated}
 use Rattle.isolation.proofs.Isolation as Isolation
 
@@ -28,9 +28,3 @@ isolated = Isolation.isolated
 -- from opening on every call of a run meets a lawful state: none is refused with 111
 pub opened-run-lawful : (base : ℕ) (st : State) (v : List ℕ) (before : List Call) → openVolume v base ≡ opened st → unlawful (run st v before .state) ≡ false
 opened-run-lawful = Isolation.opened-run-lawful
-
--- "Later calls follow the state and never read the header again, even after a write or erase over it": on volumes of one length a call answers the
--- same and leaves the same state, whatever their bytes are
-pub decided-without-bytes : (st : State) (v w : List ℕ) (call : Call) → length v ≡ length w
-    → (step st v call .answer ≡ step st w call .answer) × (step st v call .state ≡ step st w call .state)
-decided-without-bytes = Isolation.decided-without-bytes

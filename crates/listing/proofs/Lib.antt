@@ -1,2 +1,4 @@
-pub mod Decimal
 pub mod Lines
+pub mod Longest
+pub mod Room
+pub mod Theorems

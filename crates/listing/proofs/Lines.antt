@@ -1,33 +1,21 @@
--- Laws of the listing's lines: pieces of text stored one after the other, and the map's lines one entry at a time.
-use Prim.Native.Nat.{ℕ, suc, _+_, _*_, _≤_, _<_}
+-- Laws of the listing's lines: pieces of text stored one after the other, the map's lines one entry at a time, and the lines of what
+-- opening answered.
+use Prim.Native.Nat.{ℕ, _+_, _*_, _≤_, _<_}
 use mathlib.Core.Path.{_≡_, refl, sym, ap, _∙_}
-use mathlib.Core.Bool.{Bool, true, false, cond}
 use mathlib.Core.List.{List, [], _++_}
-use native.Mathlib.Numerals.{add-one}
 use native.Mathlib.Omega.{arith}
-use borrow.Author.Tests.{lt-ltb, le-ltb, ltb-false}
-use lib.Dec.{ltb}
-use lib.ListN.{length, getD, drop, drop-of-length-le, length-append}
-use lib.Seq.{sets}
-use Rattle.common.proofs.Lists.{sets-append, sets-front, drop-two}
-use Rattle.numbers.specs.LittleEndian.{leBytes}
-use Rattle.listing.specs.Decimal.{places, digits, decimal}
-use Rattle.listing.specs.Listing.{field, mapLine, mapLines, listing, listedBy, listedNumber, listVolume}
-use Rattle.listing.specs.declared.Listed.the-variants as Listed
-use Rattle.listing.proofs.Decimal.{length-digits}
+use lib.ListN.{length, getD, take, drop, drop-of-length-le, length-append}
+use lib.Seq.{sets, getD-take, length-take-le}
+use Rattle.common.proofs.Lists.{sets-append, drop-two}
+use Rattle.common.specs.Answers.{refused}
+use Rattle.volume.specs.Header.{openVolume, opened}
+use Rattle.volume.specs.State.{mapOf}
+use Rattle.volume.specs.declared.state.State.{State}
+use Rattle.listing.specs.Listing.{linesOf, listing, mapLine, mapLines, refusedLine, volumeLine}
 
 -- a piece of text after another
 pub sets-then : (a b r : List ℕ) (at j : ℕ) → j ≡ at + length a → sets r at (a ++ b) ≡ sets (sets r at a) j b
 sets-then a b r at j e = sets-append a b r at ∙ ap (λ (k : ℕ). sets (sets r at a) k b) (sym e)
-
-pub length-field : (x : ℕ) → length (field x) ≡ suc (places x)
-unfolding field decimal
-length-field x = ap suc (length-digits (places x) x)
-
--- a tab and the digits
-pub field-put : (r : List ℕ) (at x : ℕ) → sets (sets r at (leBytes 1 9)) (at + 1) (digits (places x) x) ≡ sets r at (field x)
-unfolding field decimal leBytes
-field-put r at x = rw add-one
 
 -- a word, three fields and a line feed are a line
 pub line-put : (word f g h nl r : List ℕ) (at a b d e : ℕ) → a ≡ at + length word → b ≡ a + length f → d ≡ b + length g → e ≡ d + length h
@@ -48,51 +36,68 @@ pub short-line-put : (word f nl r : List ℕ) (at a b : ℕ) → a ≡ at + leng
 short-line-put word f nl r at a b p q = sym (sets-then word (f ++ nl) r at a p ∙ sets-then f nl (sets r at word) a b q)
 
 -- the lines of a map's entries from place i on: that entry's, and then the rest; or none
-pub map-next : (w : List ℕ) (first i : ℕ) → 2 * i + 1 < length w
-    → mapLines first (drop (2 * i) w) ≡ mapLine first (getD w (2 * i) 0) (getD w (2 * i + 1) 0) ++ mapLines (first + getD w (2 * i) 0) (drop (2 * (i + 1)) w)
+map-next : (w : List ℕ) (first i : ℕ) → 2 * i + 1 < length w
+    → mapLines first (drop (2 * i) w)
+    ≡ mapLine first (getD w (2 * i) 0) (getD w (2 * i + 1) 0) ++ mapLines (first + getD w (2 * i) 0) (drop (2 * (i + 1)) w)
 unfolding mapLines
 map-next w first i h = let e : 2 * (i + 1) ≡ 2 * i + 2 = omega arith in rw (e, drop-two w (2 * i) h)
 
-pub map-end : (w : List ℕ) (first i : ℕ) → length w ≤ 2 * i → mapLines first (drop (2 * i) w) ≡ []
+map-end : (w : List ℕ) (first i : ℕ) → length w ≤ 2 * i → mapLines first (drop (2 * i) w) ≡ []
 unfolding mapLines
 map-end w first i h = rw (drop-of-length-le w {i = 2 * i} h)
 
--- ---- the answers
+-- where the loop over n map entries stands: with the lines of the entries from place i on, stored from `end` on, the room holds them all
+pub record MapLeft (n : ℕ) (map : List ℕ) (at : ℕ) (before room : List ℕ) (end first i : ℕ) : Type 0 where
+  pub ends : at + length (mapLines 0 (take (2 * n) map)) ≡ end + length (mapLines first (drop (2 * i) (take (2 * n) map)))
+  pub stored : sets before at (mapLines 0 (take (2 * n) map)) ≡ sets room end (mapLines first (drop (2 * i) (take (2 * n) map)))
 
-pub list-refused : (s room : List ℕ) → length room < length (listing s)
-    → (Listed.Refused 5 ≡ listVolume s room .answer) × (room ≡ listVolume s room .room)
-unfolding listVolume listedBy
-list-refused s room h = rw (lt-ltb (length room) (length (listing s)) h) (refl, refl)
+module _ (n : ℕ) (map : List ℕ) (at : ℕ) where
+  pub map-start : (room : List ℕ) → MapLeft n map at room room at 0 0
+  map-start room = record { ends = refl; stored = refl }
 
-pub list-done : (s room : List ℕ) → length (listing s) ≤ length room
-    → (Listed.Success (length (listing s)) ≡ listVolume s room .answer) × (sets room 0 (listing s) ≡ listVolume s room .room)
-unfolding listVolume listedBy
-list-done s room h = rw (le-ltb (length room) (length (listing s)) h) (refl, sets-front (listing s) room h)
+  module _ (long : 2 * n ≤ length map) (before room : List ℕ) (end first i : ℕ) (left : MapLeft n map at before room end first i) where
+    abbrev words : List ℕ
+    words = take (2 * n) map
 
-refused-not-listed : (n k : ℕ) → Listed.Refused n ≡ Listed.Success k → ⊥
-refused-not-listed n k e = let z : _≡_ {A = ℕ} 0 1 = cc in omega arith
+    words-length : length words ≡ 2 * n
+    words-length = length-take-le (2 * n) map long
 
-listed-same : (n k : ℕ) → Listed.Success n ≡ Listed.Success k → n ≡ k
-listed-same n k e = cc
+    pub map-more : (count len after next : ℕ) (room' : List ℕ) → i < n → count ≡ getD map (2 * i) 0 → len ≡ getD map (2 * i + 1) 0
+        → after ≡ end + length (mapLine first count len) → room' ≡ sets room end (mapLine first count len) → next ≡ first + count
+        → MapLeft n map at before room' after next (i + 1)
+    map-more count len after next room' h e f p q t =
+        let m = words-length in
+        let g : getD words (2 * i) 0 ≡ count = getD-take (2 * n) map (2 * i) 0 (omega arith) ∙ sym e in
+        let k : getD words (2 * i + 1) 0 ≡ len = getD-take (2 * n) map (2 * i + 1) 0 (omega arith) ∙ sym f in
+        let split = rw (g, k, ← t) at (map-next words first i (omega arith)) in
+        let line = mapLine first count len in
+        let rest = mapLines next (drop (2 * (i + 1)) words) in
+        let total = ap length split ∙ length-append line rest in
+        let ends = left .ends in
+        record {
+          ends = omega arith;
+          stored =
+              left .stored
+              ∙ ap (λ (x : List ℕ). sets room end x) split
+              ∙ sets-then line rest room end after p
+              ∙ ap (λ (x : List ℕ). sets x after rest) (sym q);
+        }
 
--- a text that was stored lies in the room
-pub listed-within : (s room : List ℕ) (k : ℕ) → listVolume s room .answer ≡ Listed.Success k → k ≤ length room
-unfolding listVolume listedBy
-listed-within s room k e = go (ltb (length room) (length (listing s))) refl e
-  where
-    go : (t : Bool) → ltb (length room) (length (listing s)) ≡ t → listedBy t (listing s) room .answer ≡ Listed.Success k → k ≤ length room
-    go true p q = absurd (refused-not-listed 5 k q)
-    go false p q = let z : length (listing s) ≡ k = listed-same (length (listing s)) k q in let h = ltb-false (length room) (length (listing s)) p in omega arith
+    pub map-done : n ≤ i → (end ≡ at + length (mapLines 0 words)) × (room ≡ sets before at (mapLines 0 words))
+    map-done h =
+        let m = words-length in
+        let none = map-end words first i (omega arith) in
+        let zero = ap length none in
+        let ends = left .ends in
+        (omega arith, sym (left .stored ∙ ap (λ (x : List ℕ). sets room end x) none))
 
--- and where the room is long enough it is never refused
-pub listed-fits : (s room : List ℕ) (n : ℕ) → length (listing s) ≤ length room → listVolume s room .answer ≡ Listed.Refused n → ⊥
-listed-fits s room n h e = refused-not-listed n (length (listing s)) (sym e ∙ sym (list-done s room h .0))
+-- ---- what opening answered
 
--- the number of the answer: 5 where the room is too short, else 0
-pub listed-number : (s room : List ℕ) → listedNumber (listVolume s room .answer) ≡ cond (ltb (length room) (length (listing s))) 5 0
-unfolding listVolume listedBy listedNumber
-listed-number s room = go (ltb (length room) (length (listing s)))
-  where
-    go : (t : Bool) → listedNumber (listedBy t (listing s) room .answer) ≡ cond t 5 0
-    go true = refl
-    go false = refl
+pub lines-opened : (s : List ℕ) (st : State) → openVolume s 0 ≡ opened st
+    → listing s ≡ volumeLine (st .length) (st .attributes) (st .entries) ++ mapLines 0 (mapOf st)
+unfolding listing linesOf
+lines-opened s st e = rw e
+
+pub lines-refused : (s : List ℕ) (n : ℕ) → openVolume s 0 .answer ≡ refused n → listing s ≡ refusedLine n
+unfolding listing linesOf
+lines-refused s n e = rw e

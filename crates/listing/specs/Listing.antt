@@ -1,16 +1,15 @@
 -- The listing of a volume (document 01, "the lister"): its lines, as bytes, and the call that makes them in a room.
 use Prim.Native.Nat.{ℕ, _+_, _*_}
-use mathlib.Core.Bool.{Bool, true, false}
 use mathlib.Core.List.{List, [], _∷_, _++_}
 use lib.Dec.{ltb}
 use lib.ListN.{length, drop}
-use Rattle.volume.specs.State.{mapOf}
+use Rattle.common.specs.Answers.{Answer, refused, success, short, numberOf}
+use Rattle.common.specs.Refusals.{row, firstRefusal, unlessRefused}
+use Rattle.volume.specs.BlockMap.{maxEntries}
 use Rattle.volume.specs.Header.{openVolume}
+use Rattle.volume.specs.State.{mapOf}
 use Rattle.volume.specs.declared.state.State.{State}
-use Rattle.volume.specs.declared.header.Opening.{Opening}
-use Rattle.volume.specs.declared.header.Opening.the-variants as Opening
-use Rattle.volume.specs.declared.header.Opened.{Opened}
-use Rattle.listing.specs.Decimal.{decimal}
+use Rattle.listing.specs.Decimal.{decimal, maxDigits}
 use Rattle.listing.specs.declared.Listed.{Listed}
 use Rattle.listing.specs.declared.Listed.the-variants as Listed
 
@@ -34,13 +33,17 @@ lineFeed = 10
 unfoldable pub field : ℕ → List ℕ
 field x = tab ∷ decimal x
 
--- length, attributes, entries
-unfoldable pub volumeLine : ℕ → ℕ → ℕ → List ℕ
-volumeLine len attributes entries = volumeWord ++ (field len ++ (field attributes ++ (field entries ++ (lineFeed ∷ []))))
+-- a line: its word, three fields and a line feed
+unfoldable pub line : List ℕ → ℕ → ℕ → ℕ → List ℕ
+line word x y z = word ++ (field x ++ (field y ++ (field z ++ (lineFeed ∷ []))))
 
--- first block, count, length
-unfoldable pub mapLine : ℕ → ℕ → ℕ → List ℕ
-mapLine first count len = mapWord ++ (field first ++ (field count ++ (field len ++ (lineFeed ∷ []))))
+-- "the fields are length, attributes, entries"
+abbrev pub volumeLine : ℕ → ℕ → ℕ → List ℕ
+volumeLine len attributes entries = line volumeWord len attributes entries
+
+-- "then first block, count, length"
+abbrev pub mapLine : ℕ → ℕ → ℕ → List ℕ
+mapLine first count len = line mapWord first count len
 
 -- a line for each map entry, its first block counted from `first` on
 unfoldable pub mapLines : ℕ → List ℕ → List ℕ
@@ -48,38 +51,54 @@ mapLines first [] = []
 mapLines first (count ∷ []) = []
 mapLines first (count ∷ len ∷ rest) = mapLine first count len ++ mapLines (first + count) rest
 
--- a refusal prints `refused` and the number
+-- "a refusal prints `refused\t` and the number"
 unfoldable pub refusedLine : ℕ → List ℕ
 refusedLine n = refusedWord ++ (field n ++ (lineFeed ∷ []))
 
--- the lines of what opening answered: the volume's and its map's, or the refusal's
-unfoldable pub linesOf : Opening → State → List ℕ
-linesOf Opening.Success st = volumeLine (st .length) (st .attributes) (st .entries) ++ mapLines 0 (mapOf st)
-linesOf (Opening.Refused n) st = refusedLine n
+-- the lines of what opening answered: the volume's and its map's, or the refusal's. Opening never answers short; its number would stand
+-- as a refusal's
+unfoldable pub linesOf : Answer → State → List ℕ
+linesOf (success values) st = volumeLine (st .length) (st .attributes) (st .entries) ++ mapLines 0 (mapOf st)
+linesOf (refused n) st = refusedLine n
+linesOf (short values) st = refusedLine (numberOf (short values))
 
--- the listing of a volume's bytes, at base 0
+-- the listing of a volume's bytes: "takes base 0"
 unfoldable pub listing : List ℕ → List ℕ
 listing s = linesOf (openVolume s 0 .answer) (openVolume s 0 .state)
 
--- the length that no listing of a volume's bytes exceeds: a volume line and 32 map lines, each number of at most 20 digits
+-- ---- the longest lines, where each number has 64 bits
+
+-- a field: a tab and the digits
+abbrev pub maxField : ℕ
+maxField = 1 + maxDigits
+
+-- a line: its word, three fields and a line feed
+abbrev pub maxLine : List ℕ → ℕ
+maxLine word = length word + 3 * maxField + 1
+
+-- the length that no listing of a volume's bytes exceeds, 2,214: the volume's line of 70 bytes and 32 map lines of 67
 abbrev pub maxListing : ℕ
-maxListing = 70 + 67 * 32
+maxListing = maxLine volumeWord + maxLine mapWord * maxEntries
 
--- document 01's number of the answer, 0 for success
-unfoldable pub listedNumber : Listed → ℕ
-listedNumber (Listed.Success k) = 0
-listedNumber (Listed.Refused n) = n
+-- ---- the call
 
--- what the call answers, and the room afterwards
+-- what listing answers, and the room afterwards
 pub record ListedRoom : Type 0 where
-  pub answer : Listed
+  pub answer : Answer
   pub room : List ℕ
 
--- the text at the room's start, or, where it is too long, 5 and the room as it was
-unfoldable pub listedBy : Bool → List ℕ → List ℕ → ListedRoom
-listedBy true text room = record { answer = Listed.Refused 5; room = room }
-listedBy false text room = record { answer = Listed.Success (length text); room = text ++ drop (length text) room }
+abbrev pub listedRoom : Answer → List ℕ → ListedRoom
+listedRoom answer room = record { answer = answer; room = room }
 
--- listing a volume's bytes into a room
+-- the answer that each case of the code's enum stands for
+unfoldable pub listedAnswer : Listed → Answer
+listedAnswer (Listed.Success k) = success (k ∷ [])
+listedAnswer (Listed.Refused n) = refused n
+
+-- listing a volume's bytes into a room: the text's length, and the text at the room's start; 5 where the room is too short, and it stays as
+-- it was
 unfoldable pub listVolume : List ℕ → List ℕ → ListedRoom
-listVolume s room = listedBy (ltb (length room) (length (listing s))) (listing s) room
+listVolume s room =
+    let text = listing s in
+    unlessRefused (λ n. listedRoom (refused n) room) (firstRefusal (row (ltb (length room) (length text)) 5 ∷ []))
+    (listedRoom (success (length text ∷ [])) (text ++ drop (length text) room))

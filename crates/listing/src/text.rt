@@ -3,8 +3,13 @@ ghost use mathlib.Core.Path.{_≡_};
 ghost use Prim.Native.Nat.{_+_, _≤_, _<_, _^_};
 ghost use lib.ListN.{length};
 ghost use lib.Seq.{sets};
-ghost use Rattle.listing.specs.Decimal.{digits, places};
-ghost use Rattle.listing.specs.Listing.{field};
+ghost use Rattle.listing.specs.Decimal.{digits, maxDigits, places};
+ghost use Rattle.listing.specs.Listing.{field, maxField};
+
+const TAB: u64 = 9;
+
+// The digit 0, in ASCII.
+const ZERO: u64 = 48;
 
 // Stores a word, and answers the place after it.
 pub(crate) fn put_word(room: &mut [u8], at: usize, word: &[u8]) -> usize
@@ -17,18 +22,18 @@ pub(crate) fn put_word(room: &mut [u8], at: usize, word: &[u8]) -> usize
 
 // Stores a tab and a number in decimal, and answers the place after it.
 pub(crate) fn put_field(room: &mut [u8], at: usize, x: u64) -> usize
-    requires { ⌜ at ≤ 65536 ⌝ }
-    ensures { λ r. ⌜ (r ≡ at + length (field x)) × (now (room .exit) ≡ sets (now (room .entry)) at (field x)) × (r ≤ at + 21) ⌝ }
+    requires { ⌜ at + maxField < 2 ^ 64 ⌝ }
+    ensures { λ r. ⌜ (r ≡ at + length (field x)) × (now (room .exit) ≡ sets (now (room .entry)) at (field x)) × (r ≤ at + maxField) ⌝ }
 {
     let k = count_digits(x);
-    numbers::store(room, at, 1, 9);
+    numbers::store(room, at, 1, TAB);
     put_digits(room, at + 1, k, x);
     at + 1 + k
 }
 
 // How many decimal digits a number has.
 fn count_digits(x: u64) -> usize
-    ensures { λ r. ⌜ (r ≡ places x) × (r ≤ 20) ⌝ }
+    ensures { λ r. ⌜ (r ≡ places x) × (r ≤ maxDigits) ⌝ }
 {
     let mut k = 1;
     let mut rest = x;
@@ -41,14 +46,14 @@ fn count_digits(x: u64) -> usize
 
 // Stores the last k digits of a number, from the last to the first.
 fn put_digits(room: &mut [u8], at: usize, k: usize, x: u64)
-    requires { ⌜ (at ≤ 65537) × (k ≤ 20) ⌝ }
+    requires { ⌜ at + k < 2 ^ 64 ⌝ }
     ensures { λ _. ⌜ now (room .exit) ≡ sets (now (room .entry)) at (digits k x) ⌝ }
 {
     let mut rest = x;
     let mut i = k;
     while 0 < i {
         i -= 1;
-        numbers::store(room, at + i, 1, 48 + rest % 10);
+        numbers::store(room, at + i, 1, ZERO + rest % 10);
         rest = rest / 10;
     }
 }

@@ -1,13 +1,14 @@
 -- Laws of little-endian numbers, each over the width: what reading gives past the end and from one byte more, its bound, what is
--- read in an appended list, and that reading gives back what was stored.
+-- read in an appended list, that reading gives back what was stored, and which bytes a store leaves.
 use Prim.Native.Nat.{ℕ, zero, suc, _+_, _-_, _*_, _/_, _%_, _^_, _≤_, _<_}
-use mathlib.Core.Path.{_≡_, refl, ap, ap₂, _∙_}
-use mathlib.Core.List.{List, [], _∷_, _++_}
-use native.Mathlib.Nat.{add-zero, sub-self, sub-zero, div-lt-iff-lt-mul, one-le-pow, pow-suc, pow-le-pow-right}
+use mathlib.Core.Path.{_≡_, refl, sym, ap, ap₂, _∙_}
+use mathlib.Core.List.{List, [], _∷_, _++_, append-assoc}
+use native.Mathlib.Nat.{add-zero, sub-self, sub-zero, ne-of-lt, ne-of-gt, div-lt-iff-lt-mul, one-le-pow, pow-suc, pow-le-pow-right}
 use native.Mathlib.Omega.{arith}
 use lib.Dec.{lit<}
-use lib.ListN.{length, getD, set, List·getD-eq-default}
-use lib.Seq.{sets, getD-append-add}
+use lib.ListN.{length, getD, take, drop, set, List·getD-eq-default}
+use lib.Seq.{sets, sets-eq, length-take-le, getD-append-add, getD-set-other}
+use Rattle.common.proofs.Lists.{sets-past, sets-next}
 use Rattle.numbers.specs.LittleEndian.{le, leBytes}
 
 -- past the end every number is 0
@@ -50,19 +51,26 @@ bound-none n = one-le-pow n 256 (lit< tt)
 pub store-whole : (n : ℕ) (l : List ℕ) (at x : ℕ) → sets l at (leBytes n x) ≡ sets l (at + 0) (leBytes (n - 0) x)
 store-whole n l at x = rw (sub-zero, add-zero)
 
--- the stores of x's bytes from place i on: none are left, or the lowest byte of what is left and then the rest
+-- the stores of x's bytes from place i on: they lie past the end, none are left, or the lowest byte of what is left and then the rest
+pub store-past : (n : ℕ) (l : List ℕ) (at i x : ℕ) → length l - at ≤ i → sets l (at + i) (leBytes (n - i) x) ≡ l
+store-past n l at i x h = sets-past (leBytes (n - i) x) l (at + i) (omega arith)
+
 pub store-none : (n : ℕ) (l : List ℕ) (at i x : ℕ) → n ≤ i → sets l (at + i) (leBytes (n - i) x) ≡ l
 unfolding leBytes
 store-none n l at i x h = let e : n - i ≡ 0 = omega arith in rw e
 
-pub store-more : (n : ℕ) (l : List ℕ) (at i x : ℕ) → i < n
-    → sets l (at + i) (leBytes (n - i) x) ≡ sets (set l (at + i) (x % 256)) (at + (i + 1)) (leBytes (n - (i + 1)) (x / 256))
+pub store-more : (n : ℕ) (whole l : List ℕ) (at i x j low rest : ℕ) → i < n → whole ≡ sets l (at + i) (leBytes (n - i) x)
+    → j ≡ at + i → low ≡ x % 256 → rest ≡ x / 256 → whole ≡ sets (set l j low) (at + (i + 1)) (leBytes (n - (i + 1)) rest)
 unfolding leBytes
-store-more n l at i x h =
+store-more n whole l at i x j low rest h w p q r =
     let e : n - i ≡ suc (n - (i + 1)) = omega arith in
-    let q : suc (at + i) ≡ at + (i + 1) = omega arith in
-    ap (λ (k : ℕ). sets l (at + i) (leBytes k x)) e
-    ∙ ap (λ (k : ℕ). sets (set l (at + i) (x % 256)) k (leBytes (n - (i + 1)) (x / 256))) q
+    let next : at + (i + 1) ≡ suc (at + i) = omega arith in
+    w ∙ rw (p, q, r, e, next)
+
+-- the same of a list's elements
+pub bytes-more : (v whole l : List ℕ) (at i j x : ℕ) → i < length v → whole ≡ sets l (at + i) (drop i v)
+    → j ≡ at + i → x ≡ getD v i 0 → whole ≡ sets (set l j x) (at + (i + 1)) (drop (i + 1) v)
+bytes-more v whole l at i j x h w p q = w ∙ rw (p, q) (sets-next v l at i h)
 
 -- x takes n bytes
 pub length-leBytes : (n x : ℕ) → length (leBytes n x) ≡ n
@@ -94,3 +102,34 @@ le-same zero s t at h = refl
 le-same (suc n) s t at h =
     ap₂ (λ (a b : ℕ). a + 256 * b) (h at (omega arith) (omega arith))
     (le-same n s t (at + 1) (λ i p q. h i (omega arith) (omega arith)))
+
+-- n bytes hold less than 256 ^ n
+pub le-bound : (n : ℕ) (s : List ℕ) (at : ℕ) → ((i : ℕ) → getD s i 0 < 256) → le n s at < 256 ^ n
+unfolding le
+le-bound zero s at h = lit< tt
+le-bound (suc n) s at h =
+    let low = h at in
+    let high = le-bound n s (at + 1) h in
+    rw (pow-suc 256 n) (omega arith)
+
+-- what was stored at a place is read back there
+pub le-stored : (n x : ℕ) (s : List ℕ) (at : ℕ) → at + n ≤ length s → x < 256 ^ n → le n (sets s at (leBytes n x)) at ≡ x
+le-stored n x s at fits h =
+    let long = length-leBytes n x in
+    let rest = drop (at + length (leBytes n x)) s in
+    let front : length (take at s) + 0 ≡ at = add-zero _ ∙ length-take-le at s (omega arith) in
+    ap (λ (l : List ℕ). le n l at) (sets-eq (leBytes n x) s at (omega arith) ∙ append-assoc (take at s) (leBytes n x) rest)
+    ∙ ap (λ (j : ℕ). le n (take at s ++ (leBytes n x ++ rest)) j) (sym front)
+    ∙ le-skip n (take at s) (leBytes n x ++ rest) 0
+    ∙ le-leBytes n x rest h
+
+-- a run of stores leaves the bytes before it and behind it
+pub stored-before : (v l : List ℕ) (at i : ℕ) → i < at → getD (sets l at v) i 0 ≡ getD l i 0
+stored-before [] l at i h = refl
+stored-before (x ∷ v) l at i h = stored-before v (set l at x) (suc at) i (omega arith) ∙ getD-set-other l at i x 0 (ne-of-lt h)
+
+pub stored-behind : (v l : List ℕ) (at i : ℕ) → at + length v ≤ i → getD (sets l at v) i 0 ≡ getD l i 0
+stored-behind [] l at i h = refl
+stored-behind (x ∷ v) l at i h =
+    let later : at < i = omega arith in
+    stored-behind v (set l at x) (suc at) i (omega arith) ∙ getD-set-other l at i x 0 (ne-of-gt later)

@@ -1,9 +1,1 @@
-pub mod AppendLaws
-pub mod AppendedStream
-pub mod AppendedWalk
-pub mod HeaderLaws
-pub mod KindLaws
-pub mod SearchLaws
-pub mod SeekLaws
-pub mod UnreadLaws
-pub mod WalkLaws
+pub mod Theorems

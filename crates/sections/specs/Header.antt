@@ -4,16 +4,15 @@ use Prim.Native.Nat.{ℕ, _+_, _-_, _%_, _≤_}
 use mathlib.Core.Path.{_≡_}
 use mathlib.Core.Bool.{Bool, true, false, cond, not, _&&_, _||_}
 use mathlib.Core.List.{List, [], _∷_}
-use mathlib.Core.Option.{Option, none, some}
 use lib.Dec.{eqb, ltb}
 use lib.ListN.{length, getD}
-use Rattle.common.specs.Refusals.{Row, row, firstRefusal}
+use Rattle.common.specs.Refusals.{Row, row, firstRefusal, unlessRefused}
 use Rattle.numbers.specs.LittleEndian.{le}
-use Rattle.sections.specs.Kinds.{compression, commonHeader, compressionHeader, guidDefinedHeader, kindOf}
+use Rattle.sections.specs.Types.{compression, commonHeader, compressionHeader, guidDefinedHeader, typeInfo}
 use Rattle.sections.specs.declared.header.Head.{Head}
 use Rattle.sections.specs.declared.header.Head.the-variants.{Fault, Closed, Open}
-use Rattle.sections.specs.declared.kinds.Class.{Class}
-use Rattle.sections.specs.declared.kinds.Class.the-variants.{OpenableHolder, GuidHeadedLeaf, PlainLeaf}
+use Rattle.sections.specs.declared.types.Class.{Class}
+use Rattle.sections.specs.declared.types.Class.the-variants.{OpenableHolder, GuidHeadedLeaf, PlainLeaf}
 
 -- "a section is a 24-bit size (header included), an 8-bit type, then the rest"
 abbrev pub sizeAt : List ℕ → ℕ → ℕ
@@ -61,31 +60,30 @@ wrongContents s at =
 unfoldable pub headFaults : List ℕ → ℕ → List Row
 headFaults s at =
     row (ltb (length s - at) commonHeader) 201
-    ∷ row (ltb (sizeAt s at) (kindOf (typeAt s at) .least)) 202
+    ∷ row (ltb (sizeAt s at) (typeInfo (typeAt s at) .least)) 202
     ∷ row (ltb (length s - at) (sizeAt s at)) 203
-    ∷ row (isHolder (kindOf (typeAt s at) .class) && wrongContents s at) 204
+    ∷ row (isHolder (typeInfo (typeAt s at) .class) && wrongContents s at) 204
     ∷ []
+
+-- the first byte of what a section shows: "the part of the lent stream after the section's first 4 bytes"
+abbrev pub firstAt : (at : ℕ) → ℕ
+firstAt at = at + commonHeader
 
 -- a section without a fault: a holder whose contents are searched, or one that is not opened
 unfoldable pub sectionAt : List ℕ → ℕ → Head
 sectionAt s at =
-    cond (isHolder (kindOf (typeAt s at) .class) && not (packed s at))
-    (Open (typeAt s at) (contentsAt s at) (at + sizeAt s at))
-    (Closed (typeAt s at) (at + sizeAt s at))
-
--- the fault, where there is one
-abbrev pub orFault : Option ℕ → Head → Head
-orFault none h = h
-orFault (some n) h = Fault n
+    cond (isHolder (typeInfo (typeAt s at) .class) && not (packed s at))
+    (Open (typeAt s at) (firstAt at) (contentsAt s at) (at + sizeAt s at))
+    (Closed (typeAt s at) (firstAt at) (at + sizeAt s at))
 
 -- what stands at byte `at` of a stream, where bytes are left: the first fault that applies, or the section
 unfoldable pub headAt : List ℕ → ℕ → Head
-headAt s at = orFault (firstRefusal (headFaults s at)) (sectionAt s at)
+headAt s at = unlessRefused Fault (firstRefusal (headFaults s at)) (sectionAt s at)
 
 -- private to the code's contracts: a holder lies whole at byte `at` of a stream, past 201 to 203, with its type and size
-pub record Lies (s : List ℕ) (at kind size : ℕ) : Type 0 where
+pub record Lies (s : List ℕ) (at sectionType size : ℕ) : Type 0 where
   pub sized : size ≡ sizeAt s at
-  pub typed : kind ≡ typeAt s at
-  pub holds : isHolder (kindOf kind .class) ≡ true
-  pub least : kindOf kind .least ≤ size
+  pub typed : sectionType ≡ typeAt s at
+  pub holds : isHolder (typeInfo sectionType .class) ≡ true
+  pub least : typeInfo sectionType .least ≤ size
   pub whole : at + size ≤ length s

@@ -1,6 +1,6 @@
 pub mod Append
 pub mod Header
-pub mod Kinds
 pub mod Search
 pub mod Seek
+pub mod Types
 pub mod Walk

@@ -7,13 +7,15 @@ use mathlib.Core.List.{List, [], _∷_}
 use mathlib.Core.Option.{Option, none, some}
 use lib.Dec.{eqb}
 use lib.ListN.{length, getElem?}
+use Rattle.common.specs.Answers.{Answer, refused, success}
+use Rattle.common.specs.Refusals.{unlessRefused}
 use Rattle.sections.specs.Walk.{Trace, done, fault, section, streamWalk}
 use Rattle.sections.specs.declared.search.Found.{Found}
 use Rattle.sections.specs.declared.search.Found.the-variants.{Part, Refused}
 
 -- a section of the walk: its type, and the first byte and the end, in the lent stream, of what follows its first 4 bytes
 pub record Section : Type 0 where
-  pub kind : ℕ
+  pub sectionType : ℕ
   pub first : ℕ
   pub end : ℕ
 
@@ -21,39 +23,40 @@ pub record Section : Type 0 where
 unfoldable pub sections : Trace → List Section
 sections done = []
 sections (fault n) = []
-sections (section k f e t) = record { kind = k; first = f; end = e } ∷ sections t
+sections (section t f e rest) = record { sectionType = t; first = f; end = e } ∷ sections rest
 
 -- the fault that a walk ends in; none where the stream is well formed
 unfoldable pub firstFault : Trace → Option ℕ
 firstFault done = none
 firstFault (fault n) = some n
-firstFault (section k f e t) = firstFault t
+firstFault (section t f e rest) = firstFault rest
 
 -- those of a type
-unfoldable pub ofType : ℕ → List Section → List Section
+unfoldable pub ofType : (sectionType : ℕ) → List Section → List Section
 ofType t [] = []
-ofType t (x ∷ l) = cond (eqb (x .kind) t) (x ∷ ofType t l) (ofType t l)
+ofType t (x ∷ l) = cond (eqb (x .sectionType) t) (x ∷ ofType t l) (ofType t l)
 
--- the first fault; or the part that is shown; or 14, "section not there"
-abbrev pub shown : Option ℕ → Option Section → Found
-shown (some n) p = Refused n
-shown none none = Refused 14
-shown none (some x) = Part (x .first) (x .end)
+-- "the answer shows, by first byte and end, the part of the lent stream after the section's first 4 bytes, to its end"; or 14,
+-- "section not there"
+abbrev pub partAnswer : Option Section → Answer
+partAnswer none = refused 14
+partAnswer (some x) = success (x .first ∷ x .end ∷ [])
 
--- the search for the section of a type that has `instance` sections of that type before it on the walk
-unfoldable pub searchOf : List ℕ → (kind instance : ℕ) → Found
-searchOf s kind instance =
-    shown (firstFault (streamWalk s)) (getElem? (ofType kind (sections (streamWalk s))) instance)
+-- the search for the section of a type that has `instance` sections of that type before it on the walk: the first fault of the
+-- whole tree, or the part
+unfoldable pub searchOf : List ℕ → (sectionType instance : ℕ) → Answer
+searchOf s sectionType instance =
+    unlessRefused refused (firstFault (streamWalk s)) (partAnswer (getElem? (ofType sectionType (sections (streamWalk s))) instance))
+
+-- what the code's `Found` answers: the part's first byte and end, or the refusal
+abbrev pub foundAnswer : Found → Answer
+foundAnswer (Part first e) = success (first ∷ e ∷ [])
+foundAnswer (Refused n) = refused n
 
 -- a well-formed stream: its walk meets no fault
 abbrev pub WellFormed : List ℕ → Type 0
 WellFormed s = firstFault (streamWalk s) ≡ none
 
 -- the number of sections of a type on the walk
-abbrev pub countOf : (kind : ℕ) → List ℕ → ℕ
-countOf kind s = length (ofType kind (sections (streamWalk s)))
-
--- document 01's number of an answer, 0 for success
-abbrev pub numberOf : Found → ℕ
-numberOf (Part f e) = 0
-numberOf (Refused n) = n
+abbrev pub countOf : (sectionType : ℕ) → List ℕ → ℕ
+countOf sectionType s = length (ofType sectionType (sections (streamWalk s)))

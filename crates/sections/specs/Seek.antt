@@ -2,18 +2,18 @@
 -- `search` promises.
 use Prim.Native.Nat.{ℕ, _-_}
 use mathlib.Core.Bool.{cond}
+use mathlib.Core.List.{[], _∷_}
 use lib.Dec.{eqb}
+use Rattle.common.specs.Answers.{Answer, refused, success}
 use Rattle.sections.specs.Walk.{Trace, done, fault, section}
-use Rattle.sections.specs.declared.search.Found.{Found}
-use Rattle.sections.specs.declared.search.Found.the-variants as found
 use Rattle.sections.specs.declared.walk.Seek.{Seek}
 use Rattle.sections.specs.declared.walk.Seek.the-variants.{Refused, Left, Met}
 
 -- at a section: one of the type wanted is the one wanted, where none is left before it
-unfoldable pub visited : (want : ℕ) → Seek → (kind first end : ℕ) → Seek
-visited want (Refused n) k f e = Refused n
-visited want (Left i) k f e = cond (eqb k want) (cond (eqb i 0) (Met f e) (Left (i - 1))) (Left i)
-visited want (Met a b) k f e = Met a b
+unfoldable pub visited : (want : ℕ) → Seek → (sectionType first end : ℕ) → Seek
+visited want (Refused n) t f e = Refused n
+visited want (Left i) t f e = cond (eqb t want) (cond (eqb i 0) (Met f e) (Left (i - 1))) (Left i)
+visited want (Met a b) t f e = Met a b
 
 -- at a fault: the first one stays
 unfoldable pub halted : ℕ → Seek → Seek
@@ -25,10 +25,10 @@ halted n (Met a b) = Refused n
 unfoldable pub run : (want : ℕ) → Seek → Trace → Seek
 run want a done = a
 run want a (fault n) = halted n a
-run want a (section k f e t) = run want (visited want a k f e) t
+run want a (section t f e rest) = run want (visited want a t f e) rest
 
--- the answer at the end of the walk
-unfoldable pub answered : Seek → Found
-answered (Refused n) = found.Refused n
-answered (Left i) = found.Refused 14
-answered (Met f e) = found.Part f e
+-- the search's answer at the end of the walk
+unfoldable pub seekAnswer : Seek → Answer
+seekAnswer (Refused n) = refused n
+seekAnswer (Left i) = refused 14
+seekAnswer (Met f e) = success (f ∷ e ∷ [])

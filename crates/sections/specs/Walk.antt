@@ -5,7 +5,6 @@ use mathlib.Core.List.{List}
 use lib.Dec.{eqb, ltb}
 use lib.ListN.{length, getD, take, drop}
 use Rattle.sections.specs.Header.{headAt}
-use Rattle.sections.specs.Kinds.{commonHeader}
 use Rattle.sections.specs.declared.header.Head.{Head}
 use Rattle.sections.specs.declared.header.Head.the-variants.{Fault, Closed, Open}
 
@@ -14,13 +13,13 @@ use Rattle.sections.specs.declared.header.Head.the-variants.{Fault, Clos
 pub data Trace : Type 0 where
   done : Trace
   fault : ℕ → Trace
-  section : (kind first end : ℕ) → Trace → Trace
+  section : (sectionType first end : ℕ) → Trace → Trace
 
 -- the one and, unless it ends in a fault, then the other
 unfoldable pub andThen : Trace → Trace → Trace
 andThen done u = u
 andThen (fault n) u = fault n
-andThen (section k f e t) u = section k f e (andThen t u)
+andThen (section t f e rest) u = section t f e (andThen rest u)
 
 -- "sections start on multiples of 4 counted from the start of the stream that holds them": the first such place from n on
 abbrev pub aligned : ℕ → ℕ
@@ -42,21 +41,22 @@ part from e s = take (e - from) (drop from s)
 
 -- the walk at one start, by what stands there: its fault; or the section, then the children of an open one, then its padding
 -- and `rest` from the next start on. `below` is the number of levels left below this one; where it is 0, 205 ("contents to be
--- searched would lie on a ninth level") stands instead of the holder. `inner` is the walk one level down; `base` is where the stream starts in the outer one
-unfoldable pub meet : (below : ℕ) → (inner : List ℕ → ℕ → Trace) → List ℕ → (base at : ℕ) → Head → (rest : ℕ → Trace) → Trace
-meet below inner s base at (Fault n) rest = fault n
-meet below inner s base at (Closed t e) rest = section t (base + (at + commonHeader)) (base + e) (afterPadding s e rest)
-meet below inner s base at (Open t from e) rest =
+-- searched would lie on a ninth level") stands instead of the holder. `inner` is the walk one level down; `base` is where the
+-- stream starts in the outer one
+unfoldable pub meet : (below : ℕ) → (inner : List ℕ → ℕ → Trace) → List ℕ → (base : ℕ) → Head → (rest : ℕ → Trace) → Trace
+meet below inner s base (Fault n) rest = fault n
+meet below inner s base (Closed t first e) rest = section t (base + first) (base + e) (afterPadding s e rest)
+meet below inner s base (Open t first from e) rest =
     let children = inner (part from e s) (base + from) in
-    let all = section t (base + (at + commonHeader)) (base + e) (andThen children (afterPadding s e rest)) in
+    let all = section t (base + first) (base + e) (andThen children (afterPadding s e rest)) in
     cond (eqb below 0) (fault 205) all
 
 -- the sections of one stream from byte `at` on, at most `fuel` of them; a stream of n bytes has at most n, and
--- proofs/WalkLaws.antt has the laws without this number
+-- proofs/walk/Starts.antt has the laws without this number
 unfoldable pub siblings : (below : ℕ) → (inner : List ℕ → ℕ → Trace) → (fuel : ℕ) → List ℕ → (base at : ℕ) → Trace
 siblings below inner zero s base at = done
 siblings below inner (suc fuel) s base at =
-    let here = meet below inner s base at (headAt s at) (siblings below inner fuel s base) in
+    let here = meet below inner s base (headAt s at) (siblings below inner fuel s base) in
     cond (ltb at (length s)) here done
 
 -- the walk through a stream that starts at byte `base` of the outer one, with `below` levels left below it; on the last level

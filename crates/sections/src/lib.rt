@@ -2,9 +2,10 @@
 // and its holders, searching a stream, and appending a leaf.
 //
 // No public function here has a `requires`: whatever the bytes are, the answer is a value or one of
-// document 01's refusal numbers.
+// document 01's refusal numbers. `header` and `walk` have no public function; they are public so that
+// crates above can cite their laws.
 pub mod append;
-mod header;
-pub mod kinds;
+pub mod header;
 pub mod search;
-mod walk;
+pub mod types;
+pub mod walk;

@@ -4,9 +4,8 @@ ghost use Prim.Native.Nat.{_+_, _<_, _^_};
 ghost use lib.ListN.{length};
 ghost use Rattle.sections.specs.Walk.{aligned as alignedOf, walk, zeros};
 ghost use Rattle.sections.specs.Seek.{visited, halted, run};
-use super::header::Head;
-use super::header::read_head;
-use super::kinds::COMMON_HEADER;
+use crate::header::Head;
+use crate::header::read_head;
 
 // What the walk carries along: the first fault; or how many sections of the type wanted are still
 // to be passed; or the part of the one wanted.
@@ -30,23 +29,33 @@ pub(crate) fn walk_stream(s: &[u8], base: usize, below: u64, want: u8, start: Se
             Head::Fault(n) => {
                 return halt(n, seek);
             }
-            Head::Closed { kind, end } => {
-                seek = visit(want, seek, kind, base + (at + COMMON_HEADER), base + end);
+            Head::Closed {
+                section_type,
+                first,
+                end,
+            } => {
+                seek = visit(want, seek, section_type, base + first, base + end);
                 let next = aligned(end);
                 if !zero_bytes(s, end, next - end) {
                     return halt(207, seek);
                 }
                 at = next;
             }
-            Head::Open { kind, from, end } => {
+            Head::Open {
+                section_type,
+                first,
+                from,
+                end,
+            } => {
                 if below == 0 {
                     return halt(205, seek);
                 }
-                seek = visit(want, seek, kind, base + (at + COMMON_HEADER), base + end);
-                seek = walk_stream(&s[from..end], base + from, below - 1, want, seek);
-                if let Seek::Refused(n) = seek {
+                let met = visit(want, seek, section_type, base + first, base + end);
+                let inner = walk_stream(&s[from..end], base + from, below - 1, want, met);
+                if let Seek::Refused(n) = inner {
                     return Seek::Refused(n);
                 }
+                seek = inner;
                 let next = aligned(end);
                 if !zero_bytes(s, end, next - end) {
                     return halt(207, seek);
@@ -81,19 +90,20 @@ fn zero_bytes(s: &[u8], at: usize, n: usize) -> bool
     true
 }
 
-// After a section of type `kind` whose part is from `first` to `end`.
-fn visit(want: u8, seek: Seek, kind: u8, first: usize, end: usize) -> Seek
-    ensures { λ r. ⌜ r ≡ visited want seek kind first end ⌝ }
+// After a section of a type whose part is from `first` to `end`.
+fn visit(want: u8, seek: Seek, section_type: u8, first: usize, end: usize) -> Seek
+    ensures { λ r. ⌜ r ≡ visited want seek «section_type» first end ⌝ }
 {
     match seek {
         Seek::Left(left) => {
-            if kind != want {
+            if section_type != want {
                 return seek;
             }
             if left == 0 {
                 return Seek::Met(first, end);
             }
-            Seek::Left(left - 1)
+            let rest = left - 1;
+            Seek::Left(rest)
         }
         Seek::Refused(_) => seek,
         Seek::Met(_, _) => seek,

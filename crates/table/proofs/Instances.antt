@@ -13,11 +13,11 @@ use Rattle.common.specs.Answers.{refused, success}
 use Rattle.common.specs.Lists.{edit}
 use Rattle.common.specs.Refusals.{firstRefusal, any}
 use Rattle.numbers.specs.LittleEndian.{le}
-use Rattle.block_service.specs.Access.{countMoved, writtenByte, writeChange, changedByte}
+use Rattle.block_service.specs.Access.{countMoved, writtenByte, erasedByte, writeChange, changedByte}
 use Rattle.volume.specs.Attributes.{attributesFault, baseFault}
 use Rattle.volume.specs.BlockMap.{blocks, bytes, hasZero, allZero, sizeFault}
 use Rattle.block_service.specs.Blocks.{inBlock, holds, place, placeFrom, startOf, lengthOf, leftOf, blockAt}
-use Rattle.block_service.specs.Erase.{endOfList, goodList, names, erasedByte, eraseChange}
+use Rattle.block_service.specs.Erase.{endOfList, goodList, names, eraseChange}
 use Rattle.volume.specs.Header.{opened, openVolume, stateAt, wordsAt, wordSum, openRefusals, headerLengthFault, mapFault}
 use Rattle.block_service.specs.Service.{refusals, lentRefusals, moveAnswer, effect, decide, withAttributes, perform, bufferOf, Call, setAttributes, read, eraseBlocks, step}
 use Rattle.block_service.specs.Settings.{changesFixed, raises, clears, lacksCapability, settingRefusals}
@@ -57,9 +57,25 @@ allowed D st v (c ∷ cs) k (x ∷ before) after b o buffer e d m =
     unless-first true r f = tt
     unless-first false r f = f tt
 
--- everything that the two runs compute with
+-- everything that the two runs compute with: opening, the calls, and runs
+opening : Unit {0}
+unfolding headerA sampleA openVolume stateAt stateOf stateWith wordsAt wordSum openRefusals headerLengthFault mapFault firstRefusal any le
+opening = tt
+
+judging : Unit {0}
+unfolding attributesFault baseFault blocks bytes hasZero allZero sizeFault mapOf unlawful settingRefusals changesFixed raises clears lacksCapability
+judging = tt
+
+moving : Unit {0}
+unfolding place placeFrom startOf lengthOf leftOf holds inBlock blockAt countMoved writtenByte goodList names erasedByte writeChange eraseChange changedByte edit
+moving = tt
+
+calling : Unit {0}
+unfolding refusals lentRefusals moveAnswer effect decide withAttributes perform bufferOf step isSuccess isMoved namesBlock erased run
+calling = tt
+
 computed : Unit {0}
-unfolding headerA sampleA openVolume stateAt stateOf stateWith wordsAt wordSum openRefusals headerLengthFault mapFault firstRefusal any le attributesFault baseFault blocks bytes hasZero allZero sizeFault mapOf unlawful place placeFrom startOf lengthOf leftOf holds inBlock blockAt countMoved writtenByte goodList names erasedByte changesFixed raises clears lacksCapability settingRefusals refusals lentRefusals moveAnswer writeChange eraseChange effect decide withAttributes edit changedByte perform bufferOf step isSuccess isMoved namesBlock erased run
+unfolding opening judging moving calling
 computed = tt
 
 -- sample A with byte 1024, the first of block 2, changed

@@ -8,20 +8,19 @@ use Rattle.common.specs.Answers.{numberOf, valuesOf, refused, success}
 use Rattle.common.specs.Lists.{edit}
 use Rattle.common.specs.Refusals.{firstRefusal, any}
 use Rattle.numbers.specs.LittleEndian.{le}
-use Rattle.block_service.specs.Access.{countMoved, writtenByte, writeChange, changedByte}
+use Rattle.block_service.specs.Access.{countMoved, writtenByte, erasedByte, writeChange, changedByte}
 use Rattle.volume.specs.Attributes.{attributesFault, baseFault}
 use Rattle.volume.specs.BlockMap.{blocks, bytes, hasZero, allZero, sizeFault}
 use Rattle.block_service.specs.Blocks.{place, placeFrom, startOf, lengthOf, leftOf, blockAt}
-use Rattle.block_service.specs.Erase.{endOfList, goodList, names, erasedByte, eraseChange}
+use Rattle.block_service.specs.Erase.{endOfList, goodList, names, eraseChange}
 use Rattle.volume.specs.Header.{openVolume, opened, opens, stateAt, wordsAt, wordSum, openRefusals, headerLengthFault, mapFault}
 use Rattle.block_service.specs.Service.{refusals, lentRefusals, moveAnswer, effect, decide, withAttributes, perform, bufferOf, Result, Call, setAttributes, read, write, eraseBlocks, step}
 use Rattle.block_service.specs.Settings.{changesFixed, raises, clears, lacksCapability, settingRefusals}
 use Rattle.volume.specs.State.{mapOf, stateOf, stateWith, zeroState, unlawful}
-use Rattle.sections.specs.Kinds.{kindOf}
+use Rattle.sections.specs.Types.{infoAmong, typeInfo}
 use Rattle.sections.specs.Header.{headAt, headFaults, sectionAt, packed, contentsAt, wrongContents}
 use Rattle.sections.specs.Walk.{streamWalk, walk, siblings, meet, afterPadding, zeros, andThen}
 use Rattle.sections.specs.Search.{searchOf, sections, firstFault, ofType}
-use Rattle.sections.specs.declared.search.Found.the-variants as Found
 use Rattle.table.specs.SampleA.{headerA, sampleA}
 use Rattle.table.proofs.Instances.{stateA}
 
@@ -77,11 +76,32 @@ pub record Table : Type 0 where
   -- settings 0x0EBF: 2
   pub P12 : Answers (onA (setAttributes 0x0EBF)) 2 []
   -- raw instance 1 is empty, instance 2 gives 14
-  pub P13 : searchOf stream 0x19 1 ≡ Found.Part 12 12
-  pub P13-none : searchOf stream 0x19 2 ≡ Found.Refused 14
+  pub P13 : searchOf stream 0x19 1 ≡ success (12 ∷ 12 ∷ [])
+  pub P13-none : searchOf stream 0x19 2 ≡ refused 14
+
+-- everything that the rows compute with: opening, the calls, and sections
+opening : Unit {0}
+unfolding headerA sampleA openVolume stateAt stateOf stateWith zeroState wordsAt wordSum openRefusals headerLengthFault mapFault firstRefusal any le numberOf valuesOf
+opening = tt
+
+judging : Unit {0}
+unfolding attributesFault baseFault blocks bytes hasZero allZero sizeFault mapOf unlawful settingRefusals changesFixed raises clears lacksCapability
+judging = tt
+
+moving : Unit {0}
+unfolding place placeFrom startOf lengthOf leftOf blockAt countMoved writtenByte goodList names erasedByte writeChange eraseChange changedByte edit
+moving = tt
+
+calling : Unit {0}
+unfolding refusals lentRefusals moveAnswer effect decide withAttributes perform bufferOf step
+calling = tt
+
+searching : Unit {0}
+unfolding infoAmong typeInfo headAt headFaults sectionAt packed contentsAt wrongContents streamWalk walk siblings meet afterPadding zeros andThen
+searching = tt
 
 pub table : Table
-unfolding stateA onA after badSum stream numberOf valuesOf headerA sampleA firstRefusal any le countMoved writtenByte attributesFault baseFault blocks bytes hasZero allZero sizeFault place placeFrom startOf lengthOf leftOf blockAt goodList names erasedByte openVolume stateAt wordsAt wordSum openRefusals headerLengthFault mapFault refusals lentRefusals moveAnswer writeChange eraseChange effect decide withAttributes edit changedByte perform bufferOf step changesFixed raises clears lacksCapability settingRefusals mapOf stateOf stateWith zeroState unlawful kindOf headAt headFaults sectionAt packed contentsAt wrongContents streamWalk walk siblings meet afterPadding zeros andThen searchOf sections firstFault ofType
+unfolding opening judging moving calling searching stateA onA after badSum stream searchOf sections firstFault ofType
 table =
     record {
       P1 = refl;

@@ -11,22 +11,22 @@ use crate::script::number;
 use crate::script::prefix;
 use crate::script::prepare;
 use crate::script::words_of;
+use block_service::Address;
+use block_service::BlockSize;
+use block_service::Erased;
+use block_service::Moved;
+use block_service::Settings;
+use block_service::erase_blocks;
+use block_service::get_attributes;
+use block_service::get_block_size;
+use block_service::get_physical_address;
+use block_service::read;
+use block_service::set_attributes;
+use block_service::write;
 use numbers::store_bytes;
 use numbers::u32_at;
-use volume::header::open_volume;
-use volume::service::Address;
-use volume::service::BlockSize;
-use volume::service::Erased;
-use volume::service::Moved;
-use volume::service::Settings;
-use volume::service::erase_blocks;
-use volume::service::get_attributes;
-use volume::service::get_block_size;
-use volume::service::get_physical_address;
-use volume::service::read;
-use volume::service::set_attributes;
-use volume::service::write;
-use volume::state::State;
+use volume::State;
+use volume::open_volume;
 
 // A run: the lent length and the base at opening, the header's bytes and the pattern behind them, a
 // state in place of the one that opening answers (empty for none), the calls.

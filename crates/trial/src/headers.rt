@@ -15,12 +15,12 @@ use crate::script::words_of;
 use listing::Listed;
 use listing::list_volume;
 use numbers::store_bytes;
-use volume::header::Opened;
-use volume::header::Opening;
-use volume::header::open_volume;
-use volume::header_writer::Written;
-use volume::header_writer::write_header;
-use volume::state::State;
+use volume::Opened;
+use volume::Opening;
+use volume::State;
+use volume::Written;
+use volume::open_volume;
+use volume::write_header;
 
 // The most bytes of a volume that is opened.
 const VOLUME: usize = 4096;

@@ -28,10 +28,10 @@ pub(crate) fn search_case(case: &[u8]) {
 }
 
 // The type and instance, the answer, the part's first bytes.
-fn search_fields(stream: &[u8], kind: u8, instance: u64) {
-    field(kind as u64);
+fn search_fields(stream: &[u8], section_type: u8, instance: u64) {
+    field(section_type as u64);
     field(instance);
-    let answer = search(stream, kind, instance);
+    let answer = search(stream, section_type, instance);
     match answer {
         Found::Part { first, end } => {
             field(0);

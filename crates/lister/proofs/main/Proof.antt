@@ -1,18 +1,24 @@
 -- `lister::main` meets its contract: the text lies in the room that was lent, and the room holds every listing.
 use Prim.Native.Nat.{_≤_}
-use mathlib.Core.Path.{sym, _∙_}
+use mathlib.Core.Path.{sym}
 use native.Mathlib.Nat.{le-trans}
 use borrow.Author.Needs.{needs}
 use lib.Dec.{lit≤}
 use lib.ListN.{length}
 use lib.Seq.{length-take-le}
-use Rattle.listing.proofs.Lines.{listed-fits, listed-within}
+use Rattle.listing.proofs.Room.{listed-fits, listed-within}
 use Rattle.lister.proofs.main.Statement.{statement}
 use Rattle.lister.proofs.main.Tie as tie
 
+abbrev listed : tie.After-listed → tie.After-list-volume
+listed c = c .before .before .before
+
 -- the text lies in the room that was lent
-within : (c : tie.After-known-told) → c .before .listed .given .0 .0 ≤ length (c .before .before .before .before .list-volume .last .1 .0)
-within c = let l = c .before .before .before .before .list-volume in rw (l .kept .1 .0) (listed-within _ _ _ (sym (l .ensures .0) ∙ c .before .listed .given .1))
+within : (c : tie.After-known-told) → c .before .listed .given .0 .0 ≤ length (listed (c .before) .list-volume .last .1 .0)
+within c =
+    let told = c .before in
+    let l = listed told .list-volume in
+    rw (l .kept .1 .0) (listed-within _ _ _ _ (l .ensures .0) _ (told .listed .given .1))
 
 large-buffer-requires : tie.Need-large-buffer-requires
 large-buffer-requires c κs = search needs
@@ -53,7 +59,7 @@ enum-told c = search needs
 expect-requires : tie.Need-expect-requires
 expect-requires c κs =
     let l = c .before .before .before .list-volume in
-    absurd (listed-fits _ _ _ (le-trans (l .ensures .1 .1) (lit≤ tt)) (sym (l .ensures .0) ∙ c .enum-told .given .1))
+    absurd (listed-fits _ _ _ _ (l .ensures .0) _ (le-trans (l .ensures .1) (lit≤ tt)) (c .enum-told .given .1))
 
 returns : tie.Need-returns
 returns c = search needs

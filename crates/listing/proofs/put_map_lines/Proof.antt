@@ -1,32 +1,31 @@
 -- `listing::put_map_lines` meets its contract: the lines stored and those of the entries left make the map's.
-use Prim.Native.Nat.{ℕ, _+_, _-_, _*_, _≤_, _<_}
-use mathlib.Core.List.{List}
-use mathlib.Core.Path.{_≡_, refl, sym, ap, _∙_}
+use Prim.Native.Nat.{_+_, _-_, _*_, _^_, _≤_}
+use mathlib.Core.Path.{_≡_}
 use native.Mathlib.Omega.{arith}
 use borrow.Author.Needs.{needs}
-use lib.ListN.{getD, length-append, take, drop, length}
-use lib.Seq.{length-take-le, getD-take, sets}
-use Rattle.listing.specs.Listing.{mapLine, mapLines}
+use lib.ListN.{length}
 use Rattle.volume.specs.State.{mapOf}
-use Rattle.listing.proofs.Lines.{sets-then, map-next, map-end}
+use Rattle.listing.specs.Listing.{mapWord, maxLine}
+use Rattle.listing.proofs.Lines.{MapLeft, map-start, map-more, map-done}
 use Rattle.listing.proofs.put_map_lines.Statement.{statement}
 use Rattle.listing.proofs.put_map_lines.Tie as tie
 
 abbrev Inv-loop : tie.InvT-loop
-Inv-loop room₀ at n map end₀ first₀ i₀ room end first i =
-    (i ≤ n) × (end ≤ at + 67 * i) × (first ≤ 4294967296 * i) × (length room ≡ length room₀)
-    × (at + length (mapLines 0 (take (2 * n) map)) ≡ end + length (mapLines first (drop (2 * i) (take (2 * n) map))))
-    × (sets room₀ at (mapLines 0 (take (2 * n) map)) ≡ sets room end (mapLines first (drop (2 * i) (take (2 * n) map))))
+Inv-loop room₀ at n map end₀ first₀ i₀ word room end first i =
+    (i ≤ n) × (end ≤ at + maxLine mapWord * i) × (first ≤ 2 ^ 32 * i) × (length room ≡ length room₀) × MapLeft n map at room₀ room end first i
 
 abbrev μ-loop : tie.MeasureT-loop
-μ-loop room₀ at n map end₀ first₀ i₀ room end first i = n - i
+μ-loop room₀ at n map end₀ first₀ i₀ word room end first i = n - i
 
--- the map is an array of 64 words
-map-length : (c : tie.Start Inv-loop μ-loop) → length (c .args .st .map) ≡ 64
-map-length c = search needs
+-- the map is an array of 64 words, and the entries lie in it
+words : (c : tie.Start Inv-loop μ-loop) → length (c .args .st .map) ≡ 64
+words c = search needs
+
+long : (c : tie.Start Inv-loop μ-loop) → 2 * c .args .st .entries ≤ length (c .args .st .map)
+long c = omega (arith, words c, c .pre)
 
 loop-holds : tie.Need-loop-holds Inv-loop μ-loop
-loop-holds c = (search needs, omega arith, search needs, search needs, refl, refl)
+loop-holds c = (search needs, omega arith, search needs, search needs, map-start _ _ _ _)
 
 mul-wide : tie.Need-mul-wide Inv-loop μ-loop
 mul-wide c = search needs
@@ -39,6 +38,9 @@ array-read-wide c = search needs
 
 wide-requires : tie.Need-wide-requires Inv-loop μ-loop
 wide-requires c κs = search needs
+
+slice-aggregate-put-line : tie.Need-slice-aggregate-put-line Inv-loop μ-loop
+slice-aggregate-put-line c = search needs
 
 mul-wide-3 : tie.Need-mul-wide-3 Inv-loop μ-loop
 mul-wide-3 c = search needs
@@ -55,11 +57,11 @@ array-read-wide-2 c = search needs
 wide-requires-2 : tie.Need-wide-requires-2 Inv-loop μ-loop
 wide-requires-2 c κs = search needs
 
-put-map-line-requires : tie.Need-put-map-line-requires Inv-loop μ-loop
-put-map-line-requires c κs = let l = c .before .before .before .before .loop in omega (arith, c .before .before .before .before .before .before .before .pre)
+put-line-requires : tie.Need-put-line-requires Inv-loop μ-loop
+put-line-requires c κs = search needs
 
 add-first : tie.Need-add-first Inv-loop μ-loop
-add-first c = let l = c .before .before .before .before .before .before .before .loop in let w = c .before .before .before .before .before .wide .ensures in omega (arith, c .before .before .before .before .before .before .before .before .before .before .pre)
+add-first c = search needs
 
 add-i : tie.Need-add-i Inv-loop μ-loop
 add-i c = search needs
@@ -69,44 +71,28 @@ loop-less c = search needs
 
 loop-again : tie.Need-loop-again Inv-loop μ-loop
 loop-again c =
-    let a = c .before .before .before .before .before .before .before .before .before .before .args in
-    let l = c .before .before .before .before .before .before .before .loop in
-    let n = a .st .entries in
-    let w = take (2 * n) (a .st .map) in
-    let i = l .i in
-    let long : length w ≡ 2 * n = length-take-le (2 * n) (a .st .map) (omega (arith, map-length (c .before .before .before .before .before .before .before .before .before .before), c .before .before .before .before .before .before .before .before .before .before .pre)) in
-    let t : i < n = search needs in
-    let g : getD w (2 * i) 0 ≡ c .before .before .before .before .before .wide .result = getD-take (2 * n) (a .st .map) (2 * i) 0 (omega arith) ∙ sym (c .before .before .before .before .before .wide .ensures .0) in
-    let h : getD w (2 * i + 1) 0 ≡ c .before .before .before .wide2 .result = getD-take (2 * n) (a .st .map) (2 * i + 1) 0 (omega arith) ∙ sym (c .before .before .before .wide2 .ensures .0) in
-    let next = rw (g, h) at (map-next w (l .first) i (omega arith)) in
-    let put = c .before .before .put-map-line .ensures in
-    let rest = mapLines (l .first + c .before .before .before .before .before .wide .result) (drop (2 * (i + 1)) w) in
-    let line = mapLine (l .first) (c .before .before .before .before .before .wide .result) (c .before .before .before .wide2 .result) in
-    let bound = c .before .before .before .before .before .wide .ensures in
-    let total = simp length-append at (ap length next) in (
-      omega arith,
-      omega arith,
-      omega arith,
-      c .before .before .put-map-line .kept .0 ∙ l .inv .3,
-      omega arith,
-      l .inv .5 ∙ ap (λ (x : List ℕ). sets (l .room) (l .end) x) next ∙ sets-then line rest (l .room) (l .end) (c .before .before .put-map-line .result) (put .0)
-          ∙ ap (λ (x : List ℕ). sets x (c .before .before .put-map-line .result) rest) (sym (put .1)),
+    let put = c .before .before in
+    let second = put .before in
+    let first = second .before .before .before in
+    let l = first .before .before .loop in
+    let start = first .before .before .before .before .before in (
+      search needs,
+      search needs,
+      search needs,
+      search needs,
+      map-more _ _ _ (long start) _ (l .room) (l .end) (l .first) (l .i) (l .inv .4) (first .wide .result) (second .wide2 .result) _ _ _
+          (search needs) (first .wide .ensures .0) (second .wide2 .ensures .0) (put .put-line .ensures .0) (put .put-line .ensures .1 .0) (omega arith),
     )
 
 same-length : tie.Need-same-length Inv-loop μ-loop
-same-length c = c .before .loop .inv .3
+same-length c = search needs
 
 returns : tie.Need-returns Inv-loop μ-loop
 unfolding mapOf
 returns c =
-    let a = c .before .before .before .before .args in
     let l = c .before .loop in
-    let n = a .st .entries in
-    let w = take (2 * n) (a .st .map) in
-    let long : length w ≡ 2 * n = length-take-le (2 * n) (a .st .map) (omega (arith, map-length (c .before .before .before .before), c .before .before .before .before .pre)) in
-    let none = map-end w (l .first) (l .i) (omega arith) in
-    let zero = ap length none in
-    (omega arith, sym (l .inv .5 ∙ ap (λ (x : List ℕ). sets (l .room) (l .end) x) none), omega (arith, c .before .before .before .before .pre))
+    let done = map-done _ _ _ (long (c .before .before .before .before)) _ (l .room) (l .end) (l .first) (l .i) (l .inv .4) (search needs) in
+    (done .0, (done .1, search needs))
 
 pub put-map-lines-spec : {M : Type 1} → statement M
 put-map-lines-spec =
@@ -119,12 +105,13 @@ put-map-lines-spec =
     mul-wide-2
     array-read-wide
     wide-requires
+    slice-aggregate-put-line
     mul-wide-3
     add-wide
     mul-wide-4
     array-read-wide-2
     wide-requires-2
-    put-map-line-requires
+    put-line-requires
     add-first
     add-i
     loop-less

@@ -19,7 +19,7 @@ abbrev μ-loop : tie.MeasureT-loop
 μ-loop s at width value₀ i₀ value i = i
 
 returns : tie.Need-returns Inv-loop μ-loop
-returns c = (sym (le-past _ _ _ (c .if1 .taken)), bound-none _)
+returns c = (sym (le-past _ _ _ (search needs)), bound-none _)
 
 loop-holds : tie.Need-loop-holds Inv-loop μ-loop
 loop-holds c = (search needs, sym (le-none _ _ _), bound-none _)
@@ -28,7 +28,9 @@ sub-i : tie.Need-sub-i Inv-loop μ-loop
 sub-i c = search needs
 
 mul-value : tie.Need-mul-value Inv-loop μ-loop
-mul-value c = let l = c .before .loop in omega (arith, bound-fits _ (l .i) (l .value) 0 (search needs) (l .inv .0) (search needs) (l .inv .2) (lit< tt))
+mul-value c =
+    let l = c .before .loop in
+    omega (arith, bound-fits _ (l .i) (l .value) 0 (search needs) (l .inv .0) (search needs) (l .inv .2) (lit< tt))
 
 add-byte-at : tie.Need-add-byte-at Inv-loop μ-loop
 add-byte-at c = search needs
@@ -40,15 +42,18 @@ cast-value : tie.Need-cast-value Inv-loop μ-loop
 cast-value c = search needs
 
 add-value : tie.Need-add-value Inv-loop μ-loop
-add-value c = let l = c .before .before .loop in record { fits = bound-fits _ (l .i) _ _ (search needs) (l .inv .0) (search needs) (l .inv .2) (search needs) }
+add-value c =
+    let l = c .before .before .loop in
+    record { fits = bound-fits _ (l .i) _ _ (search needs) (l .inv .0) (search needs) (l .inv .2) (search needs) }
 
 loop-less : tie.Need-loop-less Inv-loop μ-loop
 loop-less c = search needs
 
 loop-again : tie.Need-loop-again Inv-loop μ-loop
 loop-again c =
-    let l = c .before .before .loop in
-    let a = c .before .before .before .before .before .args in (
+    let looped = c .before .before in
+    let l = looped .loop in
+    let a = looped .before .before .before .args in (
       search needs,
       omega (arith, le-more (a .width) (now (a .s)) (a .at) (l .i) (search needs) (l .inv .0)),
       bound-more _ (l .i) _ _ (search needs) (l .inv .0) (l .inv .2) (search needs),
@@ -56,8 +61,9 @@ loop-again c =
 
 returns-2 : tie.Need-returns-2 Inv-loop μ-loop
 returns-2 c =
-    let l = c .before .loop in
-    let a = c .before .before .before .before .args in
+    let looped = c .before in
+    let l = looped .loop in
+    let a = looped .before .before .before .args in
     let z : l .i ≡ 0 = omega arith in
     (rw z at (l .inv .1) ∙ le-whole (a .width) (now (a .s)) (a .at), rw (z, sub-zero) at (l .inv .2))
 

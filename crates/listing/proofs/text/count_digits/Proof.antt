@@ -3,7 +3,7 @@ use Prim.Native.Nat.{_+_, _≤_}
 use mathlib.Core.Path.{_≡_}
 use native.Mathlib.Omega.{arith}
 use Rattle.listing.specs.Decimal.{places}
-use Rattle.listing.proofs.Decimal.{places-more, smaller, places-bound, counted-next, counted-end}
+use Rattle.listing.proofs.text.Decimal.{places-more, smaller, places-bound, counted-next, counted-end}
 use Rattle.listing.proofs.text.count_digits.Statement.{statement}
 use Rattle.listing.proofs.text.count_digits.Tie as tie
 

@@ -1,10 +1,10 @@
 -- `listing::text::put_digits` meets its contract: the last digits are stored, and those of what is left come before them.
 use Prim.Native.Nat.{_≤_}
-use mathlib.Core.Path.{_≡_, _∙_}
+use mathlib.Core.Path.{_≡_}
 use native.Mathlib.Omega.{arith}
 use borrow.Author.Needs.{needs}
 use lib.ListN.{length}
-use Rattle.listing.proofs.Decimal.{Spelled, spelled-start, spelled-next, spelled-end}
+use Rattle.listing.proofs.text.Decimal.{Spelled, spelled-start, spelled-next, spelled-end}
 use Rattle.listing.proofs.text.put_digits.Statement.{statement}
 use Rattle.listing.proofs.text.put_digits.Tie as tie
 
@@ -21,7 +21,7 @@ sub-i : tie.Need-sub-i Inv-loop μ-loop
 sub-i c = search needs
 
 add-store : tie.Need-add-store Inv-loop μ-loop
-add-store c = omega (arith, c .before .before .before .before .pre)
+add-store c = search needs
 
 add-store-2 : tie.Need-add-store-2 Inv-loop μ-loop
 add-store-2 c = search needs
@@ -34,8 +34,12 @@ loop-less c = search needs
 
 loop-again : tie.Need-loop-again Inv-loop μ-loop
 loop-again c =
-    let l = c .before .before .before .before .before .loop in
-    (search needs, c .before .before .store .kept .0 ∙ l .inv .1, rw (c .before .before .store .ensures) (spelled-next _ _ _ _ (l .room) (l .rest) (l .i) (search needs) (l .inv .2)))
+    let stored = c .before .before in
+    let l = stored .before .before .before .loop in (
+      search needs,
+      search needs,
+      spelled-next _ _ _ _ (l .room) _ (l .rest) (l .i) _ _ _ (search needs) (l .inv .2) (stored .store .ensures) (omega arith) (omega arith) (omega arith),
+    )
 
 same-length : tie.Need-same-length Inv-loop μ-loop
 same-length c = c .before .loop .inv .1

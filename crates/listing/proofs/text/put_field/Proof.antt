@@ -2,7 +2,7 @@
 use native.Mathlib.Omega.{arith}
 use borrow.Author.Needs.{needs}
 use denote.Ref.{now}
-use Rattle.listing.proofs.Lines.{length-field, field-put}
+use Rattle.listing.proofs.text.Field.{length-field, field-put}
 use Rattle.listing.proofs.text.put_field.Statement.{statement}
 use Rattle.listing.proofs.text.put_field.Tie as tie
 
@@ -29,10 +29,13 @@ same-length c = search needs
 
 returns : tie.Need-returns
 returns c =
-    let a = c .before .before .before .before .before .before .before .before .before .before .args in
-    let k = c .before .before .before .before .before .before .before .before .count-digits .ensures in
+    let digits = c .before .before in
+    let tabbed = digits .before .before .before .before in
+    let counted = tabbed .before .before in
+    let a = counted .before .before .args in
+    let k = counted .count-digits .ensures in
     let l = length-field (a .x) in
-    (omega arith, rw (c .before .before .put-digits .ensures, c .before .before .before .before .before .before .store .ensures, k .0) (field-put (now (a .room)) (a .at) (a .x)), omega arith)
+    (omega arith, rw (digits .put-digits .ensures, tabbed .store .ensures, k .0) (field-put (now (a .room)) (a .at) (a .x)), omega arith)
 
 pub put-field-spec : {M : Type 1} → statement M
 put-field-spec =

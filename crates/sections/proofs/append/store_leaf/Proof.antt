@@ -1,10 +1,9 @@
 -- `store_leaf` meets its contract: four runs of stores, one after another, are one.
 use Prim.Native.Nat.{_+_, _-_}
-use native.Mathlib.Omega.{arith}
 use borrow.Author.Needs.{needs}
 use denote.Ref.{now}
 use lib.ListN.{length}
-use Rattle.sections.proofs.AppendLaws.{leaf-stored}
+use Rattle.sections.proofs.append.Stores.{leaf-stored}
 use Rattle.sections.proofs.append.store_leaf.Statement.{statement}
 use Rattle.sections.proofs.append.store_leaf.Tie as tie
 
@@ -52,20 +51,17 @@ same-length c = search needs
 
 returns : tie.Need-returns
 returns c =
-    let a = c .before .before .before .before .before .before .before .before .before .before .before .before .before .before .before .before .before .before .before .args in
-    let start = c .before .before .before .before .before .before .before .before .before .before .before .before .before .before .before .before .aligned .result in
-    leaf-stored (now (a .buffer))
-    (c .before .before .before .before .before .before .before .before .before .before .before .before .before .before .store .last .0)
-    (c .before .before .before .before .before .before .before .before .before .before .store2 .last .0)
-    (c .before .before .before .before .before .before .store3 .last .0) (now (a .body))
-    (c .before .before .copy .last .0) (a .used) start (a .kind)
-    (start + (4 + length (now (a .body))) - (start + 4))
-    (c .before .before .before .before .before .before .before .before .before .before .before .before .before .before .before .before .aligned .ensures)
-    (search needs) (omega arith)
-    (omega (arith, c .before .before .before .before .before .before .before .before .before .before .before .before .before .before .before .before .before .before .before .pre))
-    (c .before .before .before .before .before .before .before .before .before .before .before .before .before .before .store .ensures)
-    (c .before .before .before .before .before .before .before .before .before .before .store2 .ensures)
-    (c .before .before .before .before .before .before .store3 .ensures) (c .before .before .copy .ensures)
+    let copied = c .before .before in
+    let typed = copied .before .before .before .before in
+    let sized = typed .before .before .before .before in
+    let padded = sized .before .before .before .before in
+    let aligned = padded .before .before in
+    let entry = aligned .before .before .before in
+    let from = aligned .aligned .result + 4 in
+    let end = aligned .aligned .result + (4 + length (now (entry .args .body))) in
+    leaf-stored _ _ _ _ _ _ _ _ _ _ _ _ from (end - from) (padded .store .ensures) (sized .store2 .ensures) (typed .store3 .ensures)
+    (copied .copy .ensures .1) (aligned .aligned .ensures) (search needs) (search needs) (search needs) (search needs) (search needs)
+    (search needs) (search needs)
 
 pub store-leaf-spec : {M : Type 1} → statement M
 store-leaf-spec =

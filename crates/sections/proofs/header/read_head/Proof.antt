@@ -1,6 +1,6 @@
 -- `read_head` meets its contract: each return is one of the header's tests, in order.
 use borrow.Author.Needs.{needs}
-use Rattle.sections.proofs.HeaderLaws.{head-201, head-202, head-203, head-leaf, head-lies}
+use Rattle.sections.proofs.header.Tests.{head-201, head-202, head-203, head-leaf, head-lies}
 use Rattle.sections.proofs.header.read_head.Statement.{statement}
 use Rattle.sections.proofs.header.read_head.Tie as tie
 
@@ -22,54 +22,56 @@ add-byte-at c = search needs
 byte-at-requires : tie.Need-byte-at-requires
 byte-at-requires c κs = search needs
 
-kind-of-requires : tie.Need-kind-of-requires
-kind-of-requires c κs = search needs
+type-info-requires : tie.Need-type-info-requires
+type-info-requires c κs = search needs
 
 returns-2 : tie.Need-returns-2
 returns-2 c =
-    head-202 _ _ (c .before .before .byte-at .ensures) (c .before .before .before .u24-at .ensures .0) (c .before .kind-of .ensures)
-    (search needs) (search needs)
+    let known = c .before in
+    head-202 _ _ (known .before .byte-at .ensures) (search needs) (known .before .before .u24-at .ensures .0) (search needs)
+    (known .type-info .ensures) (search needs) (search needs)
 
 returns-3 : tie.Need-returns-3
 returns-3 c =
-    head-203 _ _ (c .before .before .before .byte-at .ensures) (c .before .before .before .before .u24-at .ensures .0)
-    (c .before .before .kind-of .ensures) (search needs) (search needs) (search needs)
+    let known = c .before .before in
+    head-203 _ _ (known .before .byte-at .ensures) (search needs) (known .before .before .u24-at .ensures .0) (search needs)
+    (known .type-info .ensures) (search needs) (search needs) (search needs)
+
+add-first : tie.Need-add-first
+add-first c = search needs
+
+add-end : tie.Need-add-end
+add-end c = search needs
 
 enum-told : tie.Need-enum-told
 enum-told c = search needs
 
 holder-requires : tie.Need-holder-requires
 holder-requires c κs =
-    head-lies _ _ (c .before .before .before .before .before .byte-at .ensures)
-    (c .before .before .before .before .before .before .u24-at .ensures .0) (c .before .before .before .before .kind-of .ensures) (rw
-    (c .enum-told .given .1)) (search needs) (search needs) (search needs)
+    let known = c .before .before .before .before in
+    head-lies _ _ (known .before .byte-at .ensures) (search needs) (known .before .before .u24-at .ensures .0) (search needs)
+    (known .type-info .ensures) (rw (c .enum-told .given .1)) (search needs) (search needs) (search needs)
 
 enum-told-2 : tie.Need-enum-told-2
 enum-told-2 c = search needs
 
-add-t13 : tie.Need-add-t13
-add-t13 c = search needs
-
 enum-told-3 : tie.Need-enum-told-3
 enum-told-3 c = search needs
-
-add-t14 : tie.Need-add-t14
-add-t14 c = search needs
 
 returns-4 : tie.Need-returns-4
 returns-4 c = search needs
 
 returns-5 : tie.Need-returns-5
 returns-5 c =
-    head-leaf _ _ (c .before .before .before .before .before .byte-at .ensures)
-    (c .before .before .before .before .before .before .u24-at .ensures .0) (c .before .before .before .before .kind-of .ensures) (rw
-    (c .enum-told2 .given .1)) (search needs) (search needs) (search needs)
+    let known = c .before .before .before .before in
+    head-leaf _ _ (known .before .byte-at .ensures) (search needs) (known .before .before .u24-at .ensures .0) (search needs)
+    (known .type-info .ensures) (rw (c .enum-told2 .given .1)) (search needs) (search needs) (search needs) (search needs) (search needs)
 
 returns-6 : tie.Need-returns-6
 returns-6 c =
-    head-leaf _ _ (c .before .before .before .before .before .byte-at .ensures)
-    (c .before .before .before .before .before .before .u24-at .ensures .0) (c .before .before .before .before .kind-of .ensures) (rw
-    (c .enum-told3 .given .1)) (search needs) (search needs) (search needs)
+    let known = c .before .before .before .before in
+    head-leaf _ _ (known .before .byte-at .ensures) (search needs) (known .before .before .u24-at .ensures .0) (search needs)
+    (known .type-info .ensures) (rw (c .enum-told3 .given .1)) (search needs) (search needs) (search needs) (search needs) (search needs)
 
 pub read-head-spec : {M : Type 1} → statement M
 read-head-spec =
@@ -81,15 +83,15 @@ read-head-spec =
     cast-size
     add-byte-at
     byte-at-requires
-    kind-of-requires
+    type-info-requires
     returns-2
     returns-3
+    add-first
+    add-end
     enum-told
     holder-requires
     enum-told-2
-    add-t13
     enum-told-3
-    add-t14
     returns-4
     returns-5
     returns-6)

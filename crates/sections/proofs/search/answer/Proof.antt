@@ -1,6 +1,6 @@
 -- `answer` meets its contract, case by case.
 use borrow.Author.Needs.{needs}
-use Rattle.sections.specs.Seek.{answered}
+use Rattle.sections.specs.Seek.{seekAnswer}
 use Rattle.sections.proofs.search.answer.Statement.{statement}
 use Rattle.sections.proofs.search.answer.Tie as tie
 
@@ -14,15 +14,15 @@ enum-known-seek-2 : tie.Need-enum-known-seek-2
 enum-known-seek-2 c = search needs
 
 returns : tie.Need-returns
-unfolding answered
+unfolding seekAnswer
 returns c = rw (c .before .seek .given .1)
 
 returns-2 : tie.Need-returns-2
-unfolding answered
+unfolding seekAnswer
 returns-2 c = rw (c .enum-told .given .1)
 
 returns-3 : tie.Need-returns-3
-unfolding answered
+unfolding seekAnswer
 returns-3 c = rw (c .before .seek2 .given .1)
 
 pub answer-spec : {M : Type 1} → statement M

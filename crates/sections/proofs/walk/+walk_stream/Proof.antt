@@ -1,41 +1,43 @@
 -- `walk_stream` meets its contract. The loop's invariant: what is left of the walk from here on gives the whole result. The levels
 -- fall at each call, and what is left of the stream at each turn.
+--
+-- Places: `closed` and `opened` are where the header is known to be that of such a section, `turn` the top of the loop's body, `met`
+-- after the visit of an opened section, `children` after the walk of its contents, `next` after its padding's end is known.
 use Prim.Native.Nat.{_-_, ℕ, _<_}
-use mathlib.Core.Path.{sym, ap, _∙_}
+use mathlib.Core.Path.{sym, _∙_}
 use native.Mathlib.Omega.{arith}
 use borrow.Author.Needs.{needs}
 use borrow.Author.Tests.{not-true, not-false}
 use borrow.Fn.Kinds.{In}
 use borrow.Fn.PlainCycle.{Measures, is, falls, and}
 use lib.ListN.{length}
-use Rattle.sections.specs.Seek.{halted, run}
+use Rattle.sections.specs.Seek.{run}
 use Rattle.sections.specs.Walk.{walk}
-use Rattle.sections.proofs.HeaderLaws.{closed-within, open-within}
-use Rattle.sections.proofs.WalkLaws.{Going, going-start, going-end, turn-fault, turn-closed, turn-closed-207, turn-205, turn-children, turn-open-next, turn-open-207}
+use Rattle.sections.proofs.header.Extent.{closed-within, open-within}
+use Rattle.sections.proofs.walk.Turns.{Going, going-start, going-end, turn-fault, turn-closed, turn-closed-207, turn-205, turn-children, turn-open-next, turn-open-207}
 use Rattle.sections.proofs.walk.+walk_stream.{statement}
 use Rattle.sections.proofs.walk.+walk_stream.Tie.{close}
-use Rattle.sections.proofs.walk.walk_stream.Reads as walk-stream
-use Rattle.sections.proofs.walk.walk_stream.Kinds as walk-stream-kinds
-use Rattle.sections.proofs.walk.+walk_stream.Lts-walk_stream as walk-stream-lts
+use Rattle.sections.proofs.walk.walk_stream.Reads as own
+use Rattle.sections.proofs.walk.walk_stream.Kinds as kinds
+use Rattle.sections.proofs.walk.+walk_stream.Lts-walk_stream as lts
 use Rattle.sections.proofs.header.read_head.Reads as read-head-reads
 use Rattle.sections.proofs.walk.aligned.Reads as aligned-reads
 use Rattle.sections.proofs.walk.halt.Reads as halt-reads
 use Rattle.sections.proofs.walk.visit.Reads as visit-reads
 use Rattle.sections.proofs.walk.zero_bytes.Reads as zero-bytes-reads
 
-abbrev μ-walk-stream : Measures 1 walk-stream-kinds.ps ℕ
-μ-walk-stream κs a = a .1 .1 .0
+-- the measure: the levels left below
+abbrev levels : Measures 1 kinds.ps ℕ
+levels κs a = a .1 .1 .0
 
-abbrev walk-stream-at : ℕ → In 1 walk-stream-kinds.ps
-walk-stream-at t =
-    and 1 walk-stream-kinds.ps (is 1 walk-stream-kinds.ps μ-walk-stream t) walk-stream.Pre
+abbrev At : ℕ → In 1 kinds.ps
+At t = and 1 kinds.ps (is 1 kinds.ps levels t) own.Pre
 
-abbrev walk-stream-below : ℕ → In 1 walk-stream-kinds.ps
-walk-stream-below t =
-    and 1 walk-stream-kinds.ps (falls 1 walk-stream-kinds.ps _<_ μ-walk-stream t) walk-stream.Pre
+abbrev Under : ℕ → In 1 kinds.ps
+Under t = and 1 kinds.ps (falls 1 kinds.ps _<_ levels t) own.Pre
 
 -- what the calls ask and give
-abbrev R : ℕ → walk-stream-lts.Claims
+abbrev R : ℕ → lts.Claims
 R t = (
   read-head-reads.Asked,
   read-head-reads.Learnt,
@@ -47,260 +49,256 @@ R t = (
   aligned-reads.Learnt,
   zero-bytes-reads.Asked,
   zero-bytes-reads.Learnt,
-  walk-stream-below t,
-  walk-stream.Post,
+  Under t,
+  own.Post,
 )
 
-abbrev walk-stream-Inv-loop : walk-stream-lts.InvT-loop
-walk-stream-Inv-loop s base below want seek₀ at₀ seek at = Going below s base want (run want seek₀ (walk below s base)) seek at
+abbrev Inv : lts.InvT-loop
+Inv s base below want seek₀ at₀ seek at = Going below s base want (run want seek₀ (walk below s base)) seek at
 
-abbrev walk-stream-μ-loop : walk-stream-lts.MeasureT-loop
-walk-stream-μ-loop s base below want seek₀ at₀ seek at = length s - at
+abbrev μ : lts.MeasureT-loop
+μ s base below want seek₀ at₀ seek at = length s - at
 
-walk-stream-loop-holds : (t : ℕ) → walk-stream-lts.Need-loop-holds (R t) (walk-stream-at t) walk-stream.Post walk-stream-Inv-loop walk-stream-μ-loop
-walk-stream-loop-holds t c = going-start _ _ _ _ _
+loop-holds : (t : ℕ) → lts.Need-loop-holds (R t) (At t) own.Post Inv μ
+loop-holds t c = going-start _ _ _ _ _
 
-walk-stream-read-head-requires : (t : ℕ) → walk-stream-lts.Need-read-head-requires (R t) (walk-stream-at t) walk-stream.Post walk-stream-Inv-loop walk-stream-μ-loop
-walk-stream-read-head-requires t c κs = search needs
+read-head-requires : (t : ℕ) → lts.Need-read-head-requires (R t) (At t) own.Post Inv μ
+read-head-requires t c κs = search needs
 
-walk-stream-enum-known-head : (t : ℕ) → walk-stream-lts.Need-enum-known-head (R t) (walk-stream-at t) walk-stream.Post walk-stream-Inv-loop walk-stream-μ-loop
-walk-stream-enum-known-head t c = search needs
+enum-known-head : (t : ℕ) → lts.Need-enum-known-head (R t) (At t) own.Post Inv μ
+enum-known-head t c = search needs
 
-walk-stream-halt-requires : (t : ℕ) → walk-stream-lts.Need-halt-requires (R t) (walk-stream-at t) walk-stream.Post walk-stream-Inv-loop walk-stream-μ-loop
-walk-stream-halt-requires t c κs = search needs
+halt-requires : (t : ℕ) → lts.Need-halt-requires (R t) (At t) own.Post Inv μ
+halt-requires t c κs = search needs
 
-walk-stream-returns : (t : ℕ) → walk-stream-lts.Need-returns (R t) (walk-stream-at t) walk-stream.Post walk-stream-Inv-loop walk-stream-μ-loop
-walk-stream-returns t c =
-    let h = sym (c .before .before .before .before .read-head .ensures) ∙ c .before .before .head .given .1 in
-    c .halt .ensures
-    ∙ turn-fault (c .before .before .before .before .before .before .loop .inv) (c .before .before .before .before .before .loop-test .taken) h
+returns : (t : ℕ) → lts.Need-returns (R t) (At t) own.Post Inv μ
+returns t c =
+    let fault = c .before .before in
+    let turn = fault .before .before .before in
+    turn-fault (turn .before .loop .inv) (search needs) (sym (fault .before .before .read-head .ensures) ∙ fault .head .given .1) (c .halt .ensures)
 
-walk-stream-enum-known-head-2 : (t : ℕ) → walk-stream-lts.Need-enum-known-head-2 (R t) (walk-stream-at t) walk-stream.Post walk-stream-Inv-loop walk-stream-μ-loop
-walk-stream-enum-known-head-2 t c = search needs
+enum-known-head-2 : (t : ℕ) → lts.Need-enum-known-head-2 (R t) (At t) own.Post Inv μ
+enum-known-head-2 t c = search needs
 
-walk-stream-add-visit : (t : ℕ) → walk-stream-lts.Need-add-visit (R t) (walk-stream-at t) walk-stream.Post walk-stream-Inv-loop walk-stream-μ-loop
-walk-stream-add-visit t c = search needs
-
-walk-stream-add-visit-2 : (t : ℕ) → walk-stream-lts.Need-add-visit-2 (R t) (walk-stream-at t) walk-stream.Post walk-stream-Inv-loop walk-stream-μ-loop
-walk-stream-add-visit-2 t c = search needs
-
-walk-stream-add-visit-3 : (t : ℕ) → walk-stream-lts.Need-add-visit-3 (R t) (walk-stream-at t) walk-stream.Post walk-stream-Inv-loop walk-stream-μ-loop
-walk-stream-add-visit-3 t c =
-    let h = sym (c .before .before .before .read-head .ensures) ∙ c .before .head2 .given .1 in
-    let w = closed-within _ _ h in
+add-visit : (t : ℕ) → lts.Need-add-visit (R t) (At t) own.Post Inv μ
+add-visit t c =
+    let closed = c .before in
+    let w = closed-within _ _ (sym (closed .before .before .read-head .ensures) ∙ closed .head2 .given .1) in
     omega arith
 
-walk-stream-visit-requires : (t : ℕ) → walk-stream-lts.Need-visit-requires (R t) (walk-stream-at t) walk-stream.Post walk-stream-Inv-loop walk-stream-μ-loop
-walk-stream-visit-requires t c κs = search needs
-
-walk-stream-aligned-requires : (t : ℕ) → walk-stream-lts.Need-aligned-requires (R t) (walk-stream-at t) walk-stream.Post walk-stream-Inv-loop walk-stream-μ-loop
-walk-stream-aligned-requires t c κs =
-    let h = sym (c .before .before .before .before .read-head .ensures) ∙ c .before .before .head2 .given .1 in
-    let w = closed-within _ _ h in
+add-visit-2 : (t : ℕ) → lts.Need-add-visit-2 (R t) (At t) own.Post Inv μ
+add-visit-2 t c =
+    let closed = c .before in
+    let w = closed-within _ _ (sym (closed .before .before .read-head .ensures) ∙ closed .head2 .given .1) in
     omega arith
 
-walk-stream-sub-zero-bytes : (t : ℕ) → walk-stream-lts.Need-sub-zero-bytes (R t) (walk-stream-at t) walk-stream.Post walk-stream-Inv-loop walk-stream-μ-loop
-walk-stream-sub-zero-bytes t c = search needs
+visit-requires : (t : ℕ) → lts.Need-visit-requires (R t) (At t) own.Post Inv μ
+visit-requires t c κs = search needs
 
-walk-stream-zero-bytes-requires : (t : ℕ) → walk-stream-lts.Need-zero-bytes-requires (R t) (walk-stream-at t) walk-stream.Post walk-stream-Inv-loop walk-stream-μ-loop
-walk-stream-zero-bytes-requires t c κs = search needs
-
-walk-stream-halt-requires-2 : (t : ℕ) → walk-stream-lts.Need-halt-requires-2 (R t) (walk-stream-at t) walk-stream.Post walk-stream-Inv-loop walk-stream-μ-loop
-walk-stream-halt-requires-2 t c κs = search needs
-
-walk-stream-returns-2 : (t : ℕ) → walk-stream-lts.Need-returns-2 (R t) (walk-stream-at t) walk-stream.Post walk-stream-Inv-loop walk-stream-μ-loop
-walk-stream-returns-2 t c =
-    let h = sym (c .before .before .before .before .before .before .before .before .read-head .ensures)
-    ∙ c .before .before .before .before .before .before .head2 .given .1 in
-    c .halt2 .ensures ∙ ap (halted 207) (c .before .before .before .before .visit .ensures)
-    ∙ turn-closed-207 (c .before .before .before .before .before .before .before .before .before .before .loop .inv)
-    (c .before .before .before .before .before .before .before .before .before .loop-test .taken) h
-    (rw (c .before .before .before .aligned .ensures) at (sym (c .before .before .zero-bytes .ensures) ∙ not-true _ (c .before .if1 .taken)))
-
-walk-stream-loop-less : (t : ℕ) → walk-stream-lts.Need-loop-less (R t) (walk-stream-at t) walk-stream.Post walk-stream-Inv-loop walk-stream-μ-loop
-walk-stream-loop-less t c =
-    let h = sym (c .before .before .before .before .before .before .before .read-head .ensures)
-    ∙ c .before .before .before .before .before .head2 .given .1 in
-    let w = closed-within _ _ h in
-    let n = c .before .before .aligned .ensures in
+aligned-requires : (t : ℕ) → lts.Need-aligned-requires (R t) (At t) own.Post Inv μ
+aligned-requires t c κs =
+    let closed = c .before .before in
+    let w = closed-within _ _ (sym (closed .before .before .read-head .ensures) ∙ closed .head2 .given .1) in
     omega arith
 
-walk-stream-loop-again : (t : ℕ) → walk-stream-lts.Need-loop-again (R t) (walk-stream-at t) walk-stream.Post walk-stream-Inv-loop walk-stream-μ-loop
-walk-stream-loop-again t c =
-    let h = sym (c .before .before .before .before .before .before .before .read-head .ensures)
-    ∙ c .before .before .before .before .before .head2 .given .1 in
-    rw (c .before .before .before .visit .ensures, c .before .before .aligned .ensures)
-    (turn-closed (c .before .before .before .before .before .before .before .before .before .loop .inv)
-    (c .before .before .before .before .before .before .before .before .loop-test .taken) h
-    (rw (c .before .before .aligned .ensures) at (sym (c .before .zero-bytes .ensures) ∙ not-false _ (c .if1 .left))))
+sub-zero-bytes : (t : ℕ) → lts.Need-sub-zero-bytes (R t) (At t) own.Post Inv μ
+sub-zero-bytes t c = search needs
 
-walk-stream-enum-known-head-3 : (t : ℕ) → walk-stream-lts.Need-enum-known-head-3 (R t) (walk-stream-at t) walk-stream.Post walk-stream-Inv-loop walk-stream-μ-loop
-walk-stream-enum-known-head-3 t c = search needs
+zero-bytes-requires : (t : ℕ) → lts.Need-zero-bytes-requires (R t) (At t) own.Post Inv μ
+zero-bytes-requires t c κs = search needs
 
-walk-stream-halt-requires-3 : (t : ℕ) → walk-stream-lts.Need-halt-requires-3 (R t) (walk-stream-at t) walk-stream.Post walk-stream-Inv-loop walk-stream-μ-loop
-walk-stream-halt-requires-3 t c κs = search needs
+halt-requires-2 : (t : ℕ) → lts.Need-halt-requires-2 (R t) (At t) own.Post Inv μ
+halt-requires-2 t c κs = search needs
 
-walk-stream-returns-3 : (t : ℕ) → walk-stream-lts.Need-returns-3 (R t) (walk-stream-at t) walk-stream.Post walk-stream-Inv-loop walk-stream-μ-loop
-walk-stream-returns-3 t c =
-    let h = sym (c .before .before .before .before .before .read-head .ensures) ∙ c .before .before .before .head3 .given .1 in
-    c .halt3 .ensures
-    ∙ turn-205 (c .before .before .before .before .before .before .before .loop .inv)
-    (c .before .before .before .before .before .before .loop-test .taken) h (c .before .if2 .taken)
+returns-2 : (t : ℕ) → lts.Need-returns-2 (R t) (At t) own.Post Inv μ
+returns-2 t c =
+    let next = c .before .before .before in
+    let visited = next .before in
+    let closed = visited .before .before in
+    let turn = closed .before .before .before in
+    turn-closed-207 (turn .before .loop .inv) (search needs) (sym (closed .before .before .read-head .ensures) ∙ closed .head2 .given .1)
+    (visited .visit .ensures) (search needs) (search needs) (next .aligned .ensures)
+    (sym (c .before .before .zero-bytes .ensures) ∙ not-true _ (c .before .if1 .taken)) (c .halt2 .ensures)
 
-walk-stream-add-visit-4 : (t : ℕ) → walk-stream-lts.Need-add-visit-4 (R t) (walk-stream-at t) walk-stream.Post walk-stream-Inv-loop walk-stream-μ-loop
-walk-stream-add-visit-4 t c = search needs
-
-walk-stream-add-visit-5 : (t : ℕ) → walk-stream-lts.Need-add-visit-5 (R t) (walk-stream-at t) walk-stream.Post walk-stream-Inv-loop walk-stream-μ-loop
-walk-stream-add-visit-5 t c = search needs
-
-walk-stream-add-visit-6 : (t : ℕ) → walk-stream-lts.Need-add-visit-6 (R t) (walk-stream-at t) walk-stream.Post walk-stream-Inv-loop walk-stream-μ-loop
-walk-stream-add-visit-6 t c =
-    let h = sym (c .before .before .before .before .read-head .ensures) ∙ c .before .before .head3 .given .1 in
-    let w = open-within _ _ h in
+loop-less : (t : ℕ) → lts.Need-loop-less (R t) (At t) own.Post Inv μ
+loop-less t c =
+    let next = c .before .before in
+    let closed = next .before .before .before in
+    let w = closed-within _ _ (sym (closed .before .before .read-head .ensures) ∙ closed .head2 .given .1) in
+    let up = next .aligned .ensures in
     omega arith
 
-walk-stream-visit-requires-2 : (t : ℕ) → walk-stream-lts.Need-visit-requires-2 (R t) (walk-stream-at t) walk-stream.Post walk-stream-Inv-loop walk-stream-μ-loop
-walk-stream-visit-requires-2 t c κs = search needs
+loop-again : (t : ℕ) → lts.Need-loop-again (R t) (At t) own.Post Inv μ
+loop-again t c =
+    let next = c .before .before in
+    let visited = next .before in
+    let closed = visited .before .before in
+    let turn = closed .before .before .before in
+    turn-closed (turn .before .loop .inv) (search needs) (sym (closed .before .before .read-head .ensures) ∙ closed .head2 .given .1)
+    (visited .visit .ensures) (search needs) (search needs) (next .aligned .ensures)
+    (sym (c .before .zero-bytes .ensures) ∙ not-false _ (c .if1 .left))
 
-walk-stream-sub-walk-stream : (t : ℕ) → walk-stream-lts.Need-sub-walk-stream (R t) (walk-stream-at t) walk-stream.Post walk-stream-Inv-loop walk-stream-μ-loop
-walk-stream-sub-walk-stream t c =
-    let h = sym (c .before .before .before .before .before .read-head .ensures) ∙ c .before .before .before .head3 .given .1 in
-    let w = open-within _ _ h in
+enum-known-head-3 : (t : ℕ) → lts.Need-enum-known-head-3 (R t) (At t) own.Post Inv μ
+enum-known-head-3 t c = search needs
+
+halt-requires-3 : (t : ℕ) → lts.Need-halt-requires-3 (R t) (At t) own.Post Inv μ
+halt-requires-3 t c κs = search needs
+
+returns-3 : (t : ℕ) → lts.Need-returns-3 (R t) (At t) own.Post Inv μ
+returns-3 t c =
+    let opened = c .before .before .before in
+    let turn = opened .before .before .before in
+    turn-205 (turn .before .loop .inv) (search needs) (sym (opened .before .before .read-head .ensures) ∙ opened .head3 .given .1) (search needs) (c .halt3 .ensures)
+
+add-visit-3 : (t : ℕ) → lts.Need-add-visit-3 (R t) (At t) own.Post Inv μ
+add-visit-3 t c =
+    let opened = c .before .before in
+    let w = open-within _ _ (sym (opened .before .before .read-head .ensures) ∙ opened .head3 .given .1) in
     omega arith
 
-walk-stream-part-walk-stream-start : (t : ℕ) → walk-stream-lts.Need-part-walk-stream-start (R t) (walk-stream-at t) walk-stream.Post walk-stream-Inv-loop walk-stream-μ-loop
-walk-stream-part-walk-stream-start t c =
-    let h = sym (c .before .before .before .before .before .read-head .ensures) ∙ c .before .before .before .head3 .given .1 in
-    let w = open-within _ _ h in
+add-visit-4 : (t : ℕ) → lts.Need-add-visit-4 (R t) (At t) own.Post Inv μ
+add-visit-4 t c =
+    let opened = c .before .before in
+    let w = open-within _ _ (sym (opened .before .before .read-head .ensures) ∙ opened .head3 .given .1) in
     omega arith
 
-walk-stream-part-walk-stream-end : (t : ℕ) → walk-stream-lts.Need-part-walk-stream-end (R t) (walk-stream-at t) walk-stream.Post walk-stream-Inv-loop walk-stream-μ-loop
-walk-stream-part-walk-stream-end t c =
-    let h = sym (c .before .before .before .before .before .read-head .ensures) ∙ c .before .before .before .head3 .given .1 in
-    let w = open-within _ _ h in
+visit-requires-2 : (t : ℕ) → lts.Need-visit-requires-2 (R t) (At t) own.Post Inv μ
+visit-requires-2 t c κs = search needs
+
+sub-walk-stream : (t : ℕ) → lts.Need-sub-walk-stream (R t) (At t) own.Post Inv μ
+sub-walk-stream t c =
+    let opened = c .before .before .before in
+    let w = open-within _ _ (sym (opened .before .before .read-head .ensures) ∙ opened .head3 .given .1) in
     omega arith
 
-walk-stream-add-walk-stream : (t : ℕ) → walk-stream-lts.Need-add-walk-stream (R t) (walk-stream-at t) walk-stream.Post walk-stream-Inv-loop walk-stream-μ-loop
-walk-stream-add-walk-stream t c =
-    let h = sym (c .before .before .before .before .before .before .read-head .ensures) ∙ c .before .before .before .before .head3 .given .1 in
-    let w = open-within _ _ h in
+part-walk-stream-start : (t : ℕ) → lts.Need-part-walk-stream-start (R t) (At t) own.Post Inv μ
+part-walk-stream-start t c =
+    let opened = c .before .before .before in
+    let w = open-within _ _ (sym (opened .before .before .read-head .ensures) ∙ opened .head3 .given .1) in
     omega arith
 
-walk-stream-sub-walk-stream-2 : (t : ℕ) → walk-stream-lts.Need-sub-walk-stream-2 (R t) (walk-stream-at t) walk-stream.Post walk-stream-Inv-loop walk-stream-μ-loop
-walk-stream-sub-walk-stream-2 t c = search needs
-
-walk-stream-walk-stream-requires : (t : ℕ) → walk-stream-lts.Need-walk-stream-requires (R t) (walk-stream-at t) walk-stream.Post walk-stream-Inv-loop walk-stream-μ-loop
-walk-stream-walk-stream-requires t c κs =
-    let h = sym (c .before .before .before .before .before .before .read-head .ensures) ∙ c .before .before .before .before .head3 .given .1 in
-    let w = open-within _ _ h in
+part-walk-stream-end : (t : ℕ) → lts.Need-part-walk-stream-end (R t) (At t) own.Post Inv μ
+part-walk-stream-end t c =
+    let opened = c .before .before .before in
+    let w = open-within _ _ (sym (opened .before .before .read-head .ensures) ∙ opened .head3 .given .1) in
     omega arith
 
-walk-stream-enum-known-seek : (t : ℕ) → walk-stream-lts.Need-enum-known-seek (R t) (walk-stream-at t) walk-stream.Post walk-stream-Inv-loop walk-stream-μ-loop
-walk-stream-enum-known-seek t c = search needs
-
-walk-stream-returns-4 : (t : ℕ) → walk-stream-lts.Need-returns-4 (R t) (walk-stream-at t) walk-stream.Post walk-stream-Inv-loop walk-stream-μ-loop
-walk-stream-returns-4 t c =
-    let h = sym (c .before .before .before .before .before .before .before .before .before .before .read-head .ensures)
-    ∙ c .before .before .before .before .before .before .before .before .head3 .given .1 in
-    turn-children (c .before .before .before .before .before .before .before .before .before .before .before .before .loop .inv)
-    (c .before .before .before .before .before .before .before .before .before .before .before .loop-test .taken) h
-    (c .before .before .before .before .before .before .if2 .left)
-    (rw (c .before .before .before .before .before .visit2 .ensures) at (c .before .before .before .walk-stream .ensures)) (c .before .seek .given .1)
-
-walk-stream-aligned-requires-2 : (t : ℕ) → walk-stream-lts.Need-aligned-requires-2 (R t) (walk-stream-at t) walk-stream.Post walk-stream-Inv-loop walk-stream-μ-loop
-walk-stream-aligned-requires-2 t c κs =
-    let h = sym (c .before .before .before .before .before .before .before .before .read-head .ensures)
-    ∙ c .before .before .before .before .before .before .head3 .given .1 in
-    let w = open-within _ _ h in
+add-walk-stream : (t : ℕ) → lts.Need-add-walk-stream (R t) (At t) own.Post Inv μ
+add-walk-stream t c =
+    let opened = c .before .before .before .before in
+    let w = open-within _ _ (sym (opened .before .before .read-head .ensures) ∙ opened .head3 .given .1) in
     omega arith
 
-walk-stream-sub-zero-bytes-2 : (t : ℕ) → walk-stream-lts.Need-sub-zero-bytes-2 (R t) (walk-stream-at t) walk-stream.Post walk-stream-Inv-loop walk-stream-μ-loop
-walk-stream-sub-zero-bytes-2 t c = search needs
+sub-walk-stream-2 : (t : ℕ) → lts.Need-sub-walk-stream-2 (R t) (At t) own.Post Inv μ
+sub-walk-stream-2 t c = search needs
 
-walk-stream-zero-bytes-requires-2 : (t : ℕ) → walk-stream-lts.Need-zero-bytes-requires-2 (R t) (walk-stream-at t) walk-stream.Post walk-stream-Inv-loop walk-stream-μ-loop
-walk-stream-zero-bytes-requires-2 t c κs = search needs
-
-walk-stream-halt-requires-4 : (t : ℕ) → walk-stream-lts.Need-halt-requires-4 (R t) (walk-stream-at t) walk-stream.Post walk-stream-Inv-loop walk-stream-μ-loop
-walk-stream-halt-requires-4 t c κs = search needs
-
-walk-stream-returns-5 : (t : ℕ) → walk-stream-lts.Need-returns-5 (R t) (walk-stream-at t) walk-stream.Post walk-stream-Inv-loop walk-stream-μ-loop
-walk-stream-returns-5 t c =
-    let h = sym (c .before .before .before .before .before .before .before .before .before .before .before .before .read-head .ensures)
-    ∙ c .before .before .before .before .before .before .before .before .before .before .head3 .given .1 in
-    c .halt4 .ensures
-    ∙ turn-open-207
-    (c .before .before .before .before .before .before .before .before .before .before .before .before .before .before .loop .inv)
-    (c .before .before .before .before .before .before .before .before .before .before .before .before .before .loop-test .taken) h
-    (c .before .before .before .before .before .before .before .before .if2 .left)
-    (rw (c .before .before .before .before .before .before .before .visit2 .ensures) at
-    (c .before .before .before .before .before .walk-stream .ensures))
-    (rw (c .before .before .before .aligned2 .ensures) at (sym (c .before .before .zero-bytes2 .ensures) ∙ not-true _ (c .before .if3 .taken)))
-
-walk-stream-loop-less-2 : (t : ℕ) → walk-stream-lts.Need-loop-less-2 (R t) (walk-stream-at t) walk-stream.Post walk-stream-Inv-loop walk-stream-μ-loop
-walk-stream-loop-less-2 t c =
-    let h = sym (c .before .before .before .before .before .before .before .before .before .before .before .read-head .ensures)
-    ∙ c .before .before .before .before .before .before .before .before .before .head3 .given .1 in
-    let w = open-within _ _ h in
-    let n = c .before .before .aligned2 .ensures in
+walk-stream-requires : (t : ℕ) → lts.Need-walk-stream-requires (R t) (At t) own.Post Inv μ
+walk-stream-requires t c κs =
+    let opened = c .before .before .before .before in
+    let w = open-within _ _ (sym (opened .before .before .read-head .ensures) ∙ opened .head3 .given .1) in
     omega arith
 
-walk-stream-loop-again-2 : (t : ℕ) → walk-stream-lts.Need-loop-again-2 (R t) (walk-stream-at t) walk-stream.Post walk-stream-Inv-loop walk-stream-μ-loop
-walk-stream-loop-again-2 t c =
-    let h = sym (c .before .before .before .before .before .before .before .before .before .before .before .read-head .ensures)
-    ∙ c .before .before .before .before .before .before .before .before .before .head3 .given .1 in
-    rw (c .before .before .aligned2 .ensures)
-    (turn-open-next (c .before .before .before .before .before .before .before .before .before .before .before .before .before .loop .inv)
-    (c .before .before .before .before .before .before .before .before .before .before .before .before .loop-test .taken) h
-    (c .before .before .before .before .before .before .before .if2 .left)
-    (rw (c .before .before .before .before .before .before .visit2 .ensures) at (c .before .before .before .before .walk-stream .ensures))
-    (rw (c .before .before .aligned2 .ensures) at (sym (c .before .zero-bytes2 .ensures) ∙ not-false _ (c .if3 .left))))
+enum-known-inner : (t : ℕ) → lts.Need-enum-known-inner (R t) (At t) own.Post Inv μ
+enum-known-inner t c = search needs
 
-walk-stream-returns-6 : (t : ℕ) → walk-stream-lts.Need-returns-6 (R t) (walk-stream-at t) walk-stream.Post walk-stream-Inv-loop walk-stream-μ-loop
-walk-stream-returns-6 t c = going-end (c .before .loop .inv) (c .loop-test .left)
+returns-4 : (t : ℕ) → lts.Need-returns-4 (R t) (At t) own.Post Inv μ
+returns-4 t c =
+    let children = c .before .before .before in
+    let met = children .before .before in
+    let opened = met .before .before .before in
+    let turn = opened .before .before .before in
+    turn-children (turn .before .loop .inv) (search needs) (sym (opened .before .before .read-head .ensures) ∙ opened .head3 .given .1) (met .before .if2 .left)
+    (met .visit2 .ensures) (search needs) (search needs) (children .walk-stream .ensures) (search needs) (search needs) (c .before .inner .given .1)
+
+aligned-requires-2 : (t : ℕ) → lts.Need-aligned-requires-2 (R t) (At t) own.Post Inv μ
+aligned-requires-2 t c κs =
+    let opened = c .before .before .before .before .before .before in
+    let w = open-within _ _ (sym (opened .before .before .read-head .ensures) ∙ opened .head3 .given .1) in
+    omega arith
+
+sub-zero-bytes-2 : (t : ℕ) → lts.Need-sub-zero-bytes-2 (R t) (At t) own.Post Inv μ
+sub-zero-bytes-2 t c = search needs
+
+zero-bytes-requires-2 : (t : ℕ) → lts.Need-zero-bytes-requires-2 (R t) (At t) own.Post Inv μ
+zero-bytes-requires-2 t c κs = search needs
+
+halt-requires-4 : (t : ℕ) → lts.Need-halt-requires-4 (R t) (At t) own.Post Inv μ
+halt-requires-4 t c κs = search needs
+
+returns-5 : (t : ℕ) → lts.Need-returns-5 (R t) (At t) own.Post Inv μ
+returns-5 t c =
+    let next = c .before .before .before in
+    let children = next .before .before in
+    let met = children .before .before in
+    let opened = met .before .before .before in
+    let turn = opened .before .before .before in
+    turn-open-207 (turn .before .loop .inv) (search needs) (sym (opened .before .before .read-head .ensures) ∙ opened .head3 .given .1) (met .before .if2 .left)
+    (met .visit2 .ensures) (search needs) (search needs) (children .walk-stream .ensures) (search needs) (search needs) (next .aligned2 .ensures)
+    (sym (c .before .before .zero-bytes2 .ensures) ∙ not-true _ (c .before .if3 .taken)) (c .halt4 .ensures)
+
+loop-less-2 : (t : ℕ) → lts.Need-loop-less-2 (R t) (At t) own.Post Inv μ
+loop-less-2 t c =
+    let next = c .before .before in
+    let opened = next .before .before .before .before .before .before .before in
+    let w = open-within _ _ (sym (opened .before .before .read-head .ensures) ∙ opened .head3 .given .1) in
+    let up = next .aligned2 .ensures in
+    omega arith
+
+loop-again-2 : (t : ℕ) → lts.Need-loop-again-2 (R t) (At t) own.Post Inv μ
+loop-again-2 t c =
+    let next = c .before .before in
+    let children = next .before .before in
+    let met = children .before .before in
+    let opened = met .before .before .before in
+    let turn = opened .before .before .before in
+    turn-open-next (turn .before .loop .inv) (search needs) (sym (opened .before .before .read-head .ensures) ∙ opened .head3 .given .1) (met .before .if2 .left)
+    (met .visit2 .ensures) (search needs) (search needs) (children .walk-stream .ensures) (search needs) (search needs) (next .aligned2 .ensures)
+    (sym (c .before .zero-bytes2 .ensures) ∙ not-false _ (c .if3 .left))
+
+returns-6 : (t : ℕ) → lts.Need-returns-6 (R t) (At t) own.Post Inv μ
+returns-6 t c = going-end (c .before .loop .inv) (search needs)
 
 pub +walk-stream-spec : {M : Type 1} → statement M
-+walk-stream-spec = close μ-walk-stream λ t. walk-stream-lts.spec (R t)
-    (walk-stream-at t)
-    walk-stream.Post
-    walk-stream-Inv-loop
-    walk-stream-μ-loop
-    (walk-stream-loop-holds t)
-    (walk-stream-read-head-requires t)
-    (walk-stream-enum-known-head t)
-    (walk-stream-halt-requires t)
-    (walk-stream-returns t)
-    (walk-stream-enum-known-head-2 t)
-    (walk-stream-add-visit t)
-    (walk-stream-add-visit-2 t)
-    (walk-stream-add-visit-3 t)
-    (walk-stream-visit-requires t)
-    (walk-stream-aligned-requires t)
-    (walk-stream-sub-zero-bytes t)
-    (walk-stream-zero-bytes-requires t)
-    (walk-stream-halt-requires-2 t)
-    (walk-stream-returns-2 t)
-    (walk-stream-loop-less t)
-    (walk-stream-loop-again t)
-    (walk-stream-enum-known-head-3 t)
-    (walk-stream-halt-requires-3 t)
-    (walk-stream-returns-3 t)
-    (walk-stream-add-visit-4 t)
-    (walk-stream-add-visit-5 t)
-    (walk-stream-add-visit-6 t)
-    (walk-stream-visit-requires-2 t)
-    (walk-stream-sub-walk-stream t)
-    (walk-stream-part-walk-stream-start t)
-    (walk-stream-part-walk-stream-end t)
-    (walk-stream-add-walk-stream t)
-    (walk-stream-sub-walk-stream-2 t)
-    (walk-stream-walk-stream-requires t)
-    (walk-stream-enum-known-seek t)
-    (walk-stream-returns-4 t)
-    (walk-stream-aligned-requires-2 t)
-    (walk-stream-sub-zero-bytes-2 t)
-    (walk-stream-zero-bytes-requires-2 t)
-    (walk-stream-halt-requires-4 t)
-    (walk-stream-returns-5 t)
-    (walk-stream-loop-less-2 t)
-    (walk-stream-loop-again-2 t)
-    (walk-stream-returns-6 t)
++walk-stream-spec = close levels λ t. lts.spec (R t)
+    (At t)
+    own.Post
+    Inv
+    μ
+    (loop-holds t)
+    (read-head-requires t)
+    (enum-known-head t)
+    (halt-requires t)
+    (returns t)
+    (enum-known-head-2 t)
+    (add-visit t)
+    (add-visit-2 t)
+    (visit-requires t)
+    (aligned-requires t)
+    (sub-zero-bytes t)
+    (zero-bytes-requires t)
+    (halt-requires-2 t)
+    (returns-2 t)
+    (loop-less t)
+    (loop-again t)
+    (enum-known-head-3 t)
+    (halt-requires-3 t)
+    (returns-3 t)
+    (add-visit-3 t)
+    (add-visit-4 t)
+    (visit-requires-2 t)
+    (sub-walk-stream t)
+    (part-walk-stream-start t)
+    (part-walk-stream-end t)
+    (add-walk-stream t)
+    (sub-walk-stream-2 t)
+    (walk-stream-requires t)
+    (enum-known-inner t)
+    (returns-4 t)
+    (aligned-requires-2 t)
+    (sub-zero-bytes-2 t)
+    (zero-bytes-requires-2 t)
+    (halt-requires-4 t)
+    (returns-5 t)
+    (loop-less-2 t)
+    (loop-again-2 t)
+    (returns-6 t)

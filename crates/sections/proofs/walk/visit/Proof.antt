@@ -1,7 +1,7 @@
 -- `visit` meets its contract, case by case.
 use borrow.Author.Needs.{needs}
-use borrow.Author.Tests.{eq-eqb, ne-eqb}
 use Rattle.sections.specs.Seek.{visited}
+use Rattle.sections.proofs.walk.Carried.{visit-other, visit-met, visit-next}
 use Rattle.sections.proofs.walk.visit.Statement.{statement}
 use Rattle.sections.proofs.walk.visit.Tie as tie
 
@@ -9,15 +9,13 @@ enum-known-seek : tie.Need-enum-known-seek
 enum-known-seek c = search needs
 
 returns : tie.Need-returns
-unfolding visited
-returns c = rw (c .before .before .seek .given .1, ne-eqb _ _ (c .if1 .taken))
+returns c = visit-other _ _ _ _ (c .before .before .seek .given .1) (search needs)
 
 returns-2 : tie.Need-returns-2
-unfolding visited
-returns-2 c = rw (c .before .before .before .seek .given .1, eq-eqb _ _ (c .before .if1 .left), eq-eqb _ _ (c .if2 .taken))
+returns-2 c = visit-met _ _ _ _ (c .before .before .before .seek .given .1) (search needs) (search needs)
 
-sub-t9 : tie.Need-sub-t9
-sub-t9 c = search needs
+sub-rest : tie.Need-sub-rest
+sub-rest c = search needs
 
 enum-told : tie.Need-enum-told
 enum-told c = search needs
@@ -26,8 +24,7 @@ enum-told-2 : tie.Need-enum-told-2
 enum-told-2 c = search needs
 
 returns-3 : tie.Need-returns-3
-unfolding visited
-returns-3 c = rw (c .before .before .before .seek .given .1, eq-eqb _ _ (c .before .if1 .left), ne-eqb _ _ (c .if2 .left))
+returns-3 c = visit-next _ _ _ _ (c .before .before .before .seek .given .1) (search needs) (search needs) (search needs)
 
 returns-4 : tie.Need-returns-4
 unfolding visited
@@ -44,7 +41,7 @@ visit-spec =
     enum-known-seek
     returns
     returns-2
-    sub-t9
+    sub-rest
     enum-told
     enum-told-2
     returns-3

@@ -4,7 +4,7 @@ use mathlib.Core.Path.{_≡_, _∙_}
 use native.Mathlib.Omega.{arith}
 use borrow.Author.Needs.{needs}
 use Rattle.sections.specs.Walk.{zeros}
-use Rattle.sections.proofs.WalkLaws.{zeros-whole, zeros-end, zeros-stop, zeros-more}
+use Rattle.sections.proofs.walk.Padding.{zeros-whole, zeros-end, zeros-stop, zeros-more}
 use Rattle.sections.proofs.walk.zero_bytes.Statement.{statement}
 use Rattle.sections.proofs.walk.zero_bytes.Tie as tie
 

@@ -64,7 +64,8 @@ returns c =
     let s = now (c .before .before .before .args .s) in
     let n = c .before .before .before .args .n in
     let z : l .i ≡ 2 * n = omega arith in
-    fill-front (wordsAt (2 * n) s 56) (l .map) (l .i) (omega (arith, length-wordsAt (2 * n) s 56)) (l .inv .3) ∙ ap (λ (x : List ℕ). wordsAt (2 * n) s 56 ++ x) (l .inv .2 ∙ ap (λ (x : ℕ). replicate {A = ℕ} (64 - x) 0) z)
+    fill-front (wordsAt (2 * n) s 56) (l .map) (l .i) (omega (arith, length-wordsAt (2 * n) s 56)) (l .inv .3)
+    ∙ ap (λ (x : List ℕ). wordsAt (2 * n) s 56 ++ x) (l .inv .2 ∙ ap (λ (x : ℕ). replicate {A = ℕ} (64 - x) 0) z)
 
 pub map-at-spec : {M : Type 1} → statement M
 map-at-spec =

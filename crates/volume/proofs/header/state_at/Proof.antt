@@ -32,7 +32,17 @@ state-with-requires c κs = search needs
 
 returns : tie.Need-returns
 unfolding stateAt stateOf
-returns c = c .state-with .ensures ∙ rw (c .before .before .before .before .guid-at .ensures, c .before .before .u64-at .ensures, c .before .u32-at .ensures, c .before .before .before .map-at .ensures, c .before .before .before .before .before .u16-at .ensures)
+returns c =
+    let words = c .before .before .before in
+    let identified = words .before in
+    c .state-with .ensures
+    ∙ rw (
+      identified .guid-at .ensures,
+      c .before .before .u64-at .ensures,
+      c .before .u32-at .ensures,
+      words .map-at .ensures,
+      identified .before .u16-at .ensures,
+    )
 
 pub state-at-spec : {M : Type 1} → statement M
 state-at-spec =

@@ -14,7 +14,9 @@ use Rattle.volume.proofs.header_writer.store_map.Statement.{statement}
 use Rattle.volume.proofs.header_writer.store_map.Tie as tie
 
 abbrev Inv-loop : tie.InvT-loop
-Inv-loop map room₀ i₀ room i = (i ≤ length map) × (length room ≡ length room₀) × (sets room₀ 56 (wordsBytes map ++ replicate 8 0) ≡ sets room (56 + 4 * i) (wordsBytes (drop i map) ++ replicate 8 0))
+Inv-loop map room₀ i₀ room i =
+    (i ≤ length map) × (length room ≡ length room₀)
+    × (sets room₀ 56 (wordsBytes map ++ replicate 8 0) ≡ sets room (56 + 4 * i) (wordsBytes (drop i map) ++ replicate 8 0))
 
 abbrev μ-loop : tie.MeasureT-loop
 μ-loop map room₀ i₀ room i = length map - i
@@ -48,10 +50,16 @@ loop-less c = search needs
 
 loop-again : tie.Need-loop-again Inv-loop μ-loop
 loop-again c =
-    let l = c .before .before .before .before .before .before .before .loop in
-    let a = c .before .before .before .before .before .before .before .before .before .before .args in
-    let stored = rw (c .before .before .before .wide .ensures .0) at (c .before .before .store .ensures) in
-    (search needs, c .before .before .store .kept .0 ∙ l .inv .1, l .inv .2 ∙ words-next (now (a .map)) (l .room) (replicate 8 0) (l .i) (omega arith) ∙ ap (λ (x : List ℕ). sets x (56 + 4 * (l .i + 1)) (wordsBytes (drop (l .i + 1) (now (a .map))) ++ replicate 8 0)) (sym stored))
+    let stored = c .before .before in
+    let widened = stored .before in
+    let l = widened .before .before .before .before .loop in
+    let m = now (widened .before .before .before .before .before .before .before .args .map) in (
+      search needs,
+      stored .store .kept .0 ∙ l .inv .1,
+      l .inv .2 ∙ words-next m (l .room) (replicate 8 0) (l .i) (omega arith)
+          ∙ ap (λ (x : List ℕ). sets x (56 + 4 * (l .i + 1)) (wordsBytes (drop (l .i + 1) m) ++ replicate 8 0))
+          (sym (rw (widened .wide .ensures .0) at (stored .store .ensures))),
+    )
 
 mul-store-2 : tie.Need-mul-store-2 Inv-loop μ-loop
 mul-store-2 c = search needs

@@ -1,0 +1,3 @@
+pub mod Chain
+pub mod Masks
+pub mod Theorems

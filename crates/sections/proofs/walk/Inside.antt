@@ -1,0 +1,82 @@
+-- Every section that the walk meets lies inside its stream, in the places of the outer one.
+use Prim.Native.Nat.{ℕ, zero, suc, _+_, _-_, _≤_}
+use mathlib.Core.Path.{_≡_, refl}
+use mathlib.Core.Bool.{Bool, true, false, cond}
+use mathlib.Core.List.{List}
+use native.Mathlib.Omega.{arith}
+use lib.Dec.{eqb, ltb}
+use lib.ListN.{length, length-take}
+use Rattle.sections.specs.Header.{headAt}
+use Rattle.sections.specs.Walk.{Trace, done, fault, section, andThen, aligned, zeros, part, afterPadding, meet, siblings, walk}
+use Rattle.sections.specs.declared.header.Head.{Head}
+use Rattle.sections.specs.declared.header.Head.the-variants.{Fault, Closed, Open}
+use Rattle.sections.proofs.header.Extent.{closed-within, open-within}
+
+-- every section of a trace lies between two places
+abbrev pub Inside : (low high : ℕ) → Trace → Type 0
+Inside low high done = Unit {0}
+Inside low high (fault n) = Unit {0}
+Inside low high (section t f e rest) = (low ≤ f) × (f ≤ e) × (e ≤ high) × Inside low high rest
+
+inside-then : (low high : ℕ) (t u : Trace) → Inside low high t → Inside low high u → Inside low high (andThen t u)
+unfolding andThen
+inside-then low high done u p q = q
+inside-then low high (fault n) u p q = tt
+inside-then low high (section t f e rest) u p q = (p .0, p .1, p .2, inside-then low high rest u (p .3) q)
+
+inside-wider : (low high low′ high′ : ℕ) (t : Trace) → low′ ≤ low → high ≤ high′ → Inside low high t → Inside low′ high′ t
+inside-wider low high low′ high′ done a b p = tt
+inside-wider low high low′ high′ (fault n) a b p = tt
+inside-wider low high low′ high′ (section t f e rest) a b p =
+    let x = p .0 in let y = p .2 in
+    (omega arith, p .1, omega arith, inside-wider low high low′ high′ rest a b (p .3))
+
+inside-padding : (low high : ℕ) (s : List ℕ) (e : ℕ) (rest : ℕ → Trace) → Inside low high (rest (aligned e)) → Inside low high (afterPadding s e rest)
+unfolding afterPadding
+inside-padding low high s e rest p = go (zeros s e (aligned e - e))
+  where
+    go : (b : Bool) → Inside low high (cond b (rest (aligned e)) (fault 207))
+    go true = p
+    go false = tt
+
+module _ (n : ℕ) (inner : List ℕ → ℕ → Trace) (below : (l : List ℕ) (b : ℕ) → Inside b (b + length l) (inner l b)) (s : List ℕ) (base : ℕ) where
+  inside-meet : (at : ℕ) (rest : ℕ → Trace) (h : Head) → headAt s at ≡ h → ((next : ℕ) → Inside base (base + length s) (rest next))
+      → Inside base (base + length s) (meet n inner s base h rest)
+  unfolding meet
+  inside-meet at rest (Fault m) p q = tt
+  inside-meet at rest (Closed t first e) p q =
+      let w = closed-within s at p in
+      (omega arith, omega arith, omega arith, inside-padding base (base + length s) s e rest (q (aligned e)))
+  inside-meet at rest (Open t first f e) p q = go (eqb n 0)
+    where
+      go : (b : Bool) → Inside base (base + length s)
+          (cond b (fault 205) (section t (base + first) (base + e) (andThen (inner (part f e s) (base + f)) (afterPadding s e rest))))
+      go true = tt
+      go false =
+          let w = open-within s at p in
+          let l : length (part f e s) ≤ e - f = simp length-take (omega arith) in (
+            omega arith,
+            omega arith,
+            omega arith,
+            inside-then base (base + length s) (inner (part f e s) (base + f)) (afterPadding s e rest)
+                (inside-wider (base + f) (base + f + length (part f e s)) base (base + length s) (inner (part f e s) (base + f)) (omega arith) (omega arith)
+                (below (part f e s) (base + f)))
+                (inside-padding base (base + length s) s e rest (q (aligned e))),
+          )
+
+  inside-siblings : (fuel at : ℕ) → Inside base (base + length s) (siblings n inner fuel s base at)
+  unfolding siblings
+  inside-siblings zero at = tt
+  inside-siblings (suc fuel) at =
+      go (ltb at (length s)) (inside-meet at (siblings n inner fuel s base) (headAt s at) refl (inside-siblings fuel))
+    where
+      go : (b : Bool) → Inside base (base + length s) (meet n inner s base (headAt s at) (siblings n inner fuel s base))
+          → Inside base (base + length s) (cond b (meet n inner s base (headAt s at) (siblings n inner fuel s base)) done)
+      go true p = p
+      go false p = tt
+
+-- every section that the walk meets lies inside its stream
+pub inside-walk : (n : ℕ) (s : List ℕ) (base : ℕ) → Inside base (base + length s) (walk n s base)
+unfolding walk
+inside-walk zero s base = inside-siblings 0 (λ l b. done) (λ l b. tt) s base (length s) 0
+inside-walk (suc n) s base = inside-siblings (suc n) (walk n) (inside-walk n) s base (length s) 0
