@@ -61,7 +61,7 @@ last-word w i n h s = rw (drop-cons w i 0 h) (go (drop (suc i) w) (rw (length-dr
     go [] p = refl
     go (c ∷ r) p = absurd (omega arith)
 
-pub odd-list : (w : List ℕ) (i n : ℕ) → i < length w → length w - i < 2 → (getD w i 0 ≡ endOfList → ⊥) → false ≡ goodList n (drop i w)
+odd-list : (w : List ℕ) (i n : ℕ) → i < length w → length w - i < 2 → (getD w i 0 ≡ endOfList → ⊥) → false ≡ goodList n (drop i w)
 unfolding goodList
 odd-list w i n h s e = rw (drop-cons w i 0 h) (go (drop (suc i) w) (rw (length-drop (suc i) w) (omega arith)))
   where
