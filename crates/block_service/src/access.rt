@@ -33,9 +33,9 @@ pub(crate) fn load(volume: &[u8], start: usize, offset: usize, buffer: &mut [u8]
     if count == 0 {
         return;
     }
-    let at = start + offset;
-    let end = at + count;
-    copy(&volume[at..end], buffer);
+    let from = start + offset;
+    let to = from + count;
+    copy(&volume[from..to], buffer);
 }
 
 // Stores the first `count` bytes of `new` in the volume, from an offset of the block at `start`, by the

@@ -1,8 +1,8 @@
 // Erasing the blocks that a list names.
-ghost use mathlib.Core.Bool.{true, cond, _&&_};
+ghost use mathlib.Core.Bool.{true, not, cond, _&&_};
 ghost use mathlib.Core.Path.{_≡_};
 ghost use Prim.Native.Nat.{_+_, _≤_, _<_};
-ghost use lib.Dec.{leb, ltb};
+ghost use lib.Dec.{eqb, leb, ltb};
 ghost use lib.ListN.{length};
 ghost use Rattle.volume.specs.BlockMap.{blocks, bytes, maxBlocks, maxLength};
 ghost use Rattle.block_service.specs.Blocks.{blockAt};
@@ -36,31 +36,37 @@ pub(crate) fn erase_good(words: &[u32], volume: &mut [u8], list: &[u64], value: 
     false
 }
 
-// Whether an erase list is good for so many blocks. The sum of first block and count is never formed, so
-// that it cannot wrap.
+// Whether an erase list is good for so many blocks: it has its terminator, and every pair before it fits.
 fn good_list(total: u64, list: &[u64]) -> bool
     ensures { λ r. ⌜ r ≡ goodList total (now (list .entry)) ⌝ }
 {
     let mut i = 0;
-    while i < list.len() {
+    while i + 1 < list.len() {
         let first = list[i];
         if first == END_OF_LIST {
             return true;
         }
-        if list.len() - i < 2 {
-            return false;
-        }
-        let count = list[i + 1];
-        if count == 0 {
-            return false;
-        }
-        if total <= first {
-            return false;
-        }
-        if total - first < count {
+        if !pair_fits(total, first, list[i + 1]) {
             return false;
         }
         i += 2;
+    }
+    if i < list.len() {
+        return list[i] == END_OF_LIST;
+    }
+    false
+}
+
+// Whether a pair of first block and count names blocks, and only such as are there. The sum of the two is never formed, so
+// that it cannot wrap.
+fn pair_fits(total: u64, first: u64, count: u64) -> bool
+    ensures { λ r. ⌜ r ≡ (not (eqb count 0) && leb (first + count) total) ⌝ }
+{
+    if 0 < count {
+        if first < total {
+            let left = total - first;
+            return count <= left;
+        }
     }
     false
 }

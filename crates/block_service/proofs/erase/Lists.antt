@@ -1,10 +1,10 @@
 -- Laws of erase lists: a list from place i on, as a walk over its pairs meets it; and the erase of a run of blocks and of a whole list.
 use Prim.Native.Nat.{ℕ, suc, _+_, _-_, _≤_, _<_}
 use mathlib.Core.Path.{_≡_, refl, sym, _∙_}
-use mathlib.Core.Bool.{Bool, true, false, not, cond, _&&_, _||_}
+use mathlib.Core.Bool.{Bool, true, false, not, cond, _&&_, _||_, and-assoc}
 use mathlib.Core.List.{List, [], _∷_, _++_}
 use native.Mathlib.Omega.{arith}
-use borrow.Author.Tests.{le-leb, lt-leb, ne-eqb, leb-true, ltb-true, ltb-false, eqb-false}
+use borrow.Author.Tests.{le-leb, lt-leb, ne-eqb, leb-true, leb-false, ltb-true, ltb-false, eqb-false}
 use lib.Dec.{leb, ltb, eqb}
 use lib.ListN.{length, getD, take, drop, length-drop, drop-of-length-le}
 use lib.Seq.{drop-cons}
@@ -15,6 +15,20 @@ use Rattle.block_service.specs.Blocks.{blockAt, firstByte}
 use Rattle.block_service.specs.Erase.{endOfList, goodList, names}
 use Rattle.common.proofs.Edit.{within, edit-part, edit-same, edit-keep, edit-edit}
 use Rattle.block_service.proofs.blocks.Places.{before-same, not-before-same}
+
+-- a pair of first block f and count c fits n blocks: tested without the sum of the two
+pub fits-within : (n f c : ℕ) → 0 < c → f < n → leb c (n - f) ≡ (not (eqb c 0) && leb (f + c) n)
+fits-within n f c p q = rw (ne-eqb c 0 (λ z. omega arith)) (go (leb c (n - f)) refl)
+  where
+    go : (t : Bool) → leb c (n - f) ≡ t → t ≡ leb (f + c) n
+    go true e = let h : c ≤ n - f = leb-true _ _ e in sym (le-leb (f + c) n (omega arith))
+    go false e = let h : n - f < c = leb-false _ _ e in sym (lt-leb (f + c) n (omega arith))
+
+pub fits-past : (n f c : ℕ) → 0 < c → n ≤ f → false ≡ (not (eqb c 0) && leb (f + c) n)
+fits-past n f c p q = rw (ne-eqb c 0 (λ z. omega arith), lt-leb (f + c) n (omega arith))
+
+pub fits-none : (n f c : ℕ) → c ≤ 0 → false ≡ (not (eqb c 0) && leb (f + c) n)
+fits-none n f c p = let z : c ≡ 0 = omega arith in rw z
 
 -- the list from place i on, where the terminator stands there
 module _ (w : List ℕ) (i : ℕ) (h : i < length w) (e : getD w i 0 ≡ endOfList) where
@@ -39,7 +53,15 @@ pub past-list : (w : List ℕ) (i n : ℕ) → length w ≤ i → false ≡ good
 unfolding goodList
 past-list w i n h = rw (drop-of-length-le w {i = i} h)
 
-pub odd-list : (w : List ℕ) (i n : ℕ) → i < length w → length w - i < 2 → (getD w i 0 ≡ endOfList → ⊥) → false ≡ goodList n (drop i w)
+pub last-word : (w : List ℕ) (i n : ℕ) → i < length w → length w ≤ i + 1 → eqb (getD w i 0) endOfList ≡ goodList n (drop i w)
+unfolding goodList
+last-word w i n h s = rw (drop-cons w i 0 h) (go (drop (suc i) w) (rw (length-drop (suc i) w) (omega arith)))
+  where
+    go : (r : List ℕ) → length r ≤ 0 → eqb (getD w i 0) endOfList ≡ goodList n (getD w i 0 ∷ r)
+    go [] p = refl
+    go (c ∷ r) p = absurd (omega arith)
+
+odd-list : (w : List ℕ) (i n : ℕ) → i < length w → length w - i < 2 → (getD w i 0 ≡ endOfList → ⊥) → false ≡ goodList n (drop i w)
 unfolding goodList
 odd-list w i n h s e = rw (drop-cons w i 0 h) (go (drop (suc i) w) (rw (length-drop (suc i) w) (omega arith)))
   where
@@ -52,17 +74,16 @@ module _ (w : List ℕ) (i f c : ℕ) (h : i + 1 < length w) (ef : f ≡ getD w 
   pair-words : drop i w ≡ f ∷ c ∷ drop (i + 2) w
   pair-words = rw (drop-two w i h, ef, ec)
 
-  pub zero-pair : (n : ℕ) → c ≡ 0 → false ≡ goodList n (drop i w)
+  -- the list is good where the pair fits and the words after it are good
+  pair-is : (n : ℕ) → goodList n (drop i w) ≡ ((not (eqb c 0) && leb (f + c) n) && goodList n (drop (i + 2) w))
   unfolding goodList
-  zero-pair n z = rw (pair-words, ne-eqb f endOfList e, z)
+  pair-is n = rw (pair-words, ne-eqb f endOfList e) (sym (and-assoc (not (eqb c 0)) (leb (f + c) n) _))
 
-  pub far-pair : (n : ℕ) → (c ≡ 0 → ⊥) → n < f + c → false ≡ goodList n (drop i w)
-  unfolding goodList
-  far-pair n z p = rw (pair-words, ne-eqb f endOfList e, ne-eqb c 0 z, lt-leb (f + c) n p)
+  pub bad-pair : (n : ℕ) (t : Bool) → t ≡ (not (eqb c 0) && leb (f + c) n) → t ≡ false → false ≡ goodList n (drop i w)
+  bad-pair n t q z = rw (pair-is n, ← q, z)
 
-  pub good-pair : (n : ℕ) → (c ≡ 0 → ⊥) → f + c ≤ n → goodList n (drop (i + 2) w) ≡ goodList n (drop i w)
-  unfolding goodList
-  good-pair n z p = rw (pair-words, ne-eqb f endOfList e, ne-eqb c 0 z, le-leb (f + c) n p)
+  pub good-pair : (n : ℕ) (t : Bool) → t ≡ (not (eqb c 0) && leb (f + c) n) → t ≡ true → goodList n (drop (i + 2) w) ≡ goodList n (drop i w)
+  good-pair n t q z = rw (pair-is n, ← q, z)
 
   -- a good list's pair is good, and so is what follows it
   pub pair-good : (n : ℕ) → goodList n (drop i w) ≡ true → (0 < c) × (f + c ≤ n) × (goodList n (drop (i + 2) w) ≡ true)

@@ -1,10 +1,10 @@
 -- The capabilities that a change of settings needs, status by status, as the code asks for them; and which bits the fixed ones are.
 use Prim.Native.Nat.{ℕ, zero, suc, _+_, _*_, _/_, _%_, _^_, _≤_}
-use mathlib.Core.Path.{_≡_, refl, sym, _∙_}
-use mathlib.Core.Bool.{Bool, true, false, not, _&&_, _||_, or-assoc, and-false}
+use mathlib.Core.Path.{_≡_, refl, sym, ap, _∙_}
+use mathlib.Core.Bool.{Bool, true, false, not, _&&_, _||_, or-assoc, or-true, or-false, and-false}
 use native.Mathlib.Nat.{div-one, div-div-eq-div-mul}
 use native.Mathlib.Omega.{arith}
-use borrow.Author.Tests.{eq-eqb, eqb-true, not-false}
+use borrow.Author.Tests.{eq-eqb, ne-eqb, eqb-true, eqb-false, not-false}
 use lib.Dec.{eqb}
 use Rattle.common.specs.Refusals.{any}
 use Rattle.common.proofs.Refusals.{any-passed}
@@ -81,6 +81,33 @@ fixed-same old new e =
       lock-cap = eqb-true _ _ (not-false _ (c .0));
       high = eqb-true _ _ (not-false _ (d .0));
     }
+
+-- settings that differ in one of the fixed stretches do not; where they differ in none but perhaps the last, the last decides
+module _ (old new : ℕ) where
+  pub changes-low : (old % 0x4 ≡ new % 0x4 → ⊥) → true ≡ changesFixed old new
+  unfolding changesFixed any
+  changes-low d = rw (ne-eqb _ _ d)
+
+  pub changes-write-caps : (old / 0x8 % 4 ≡ new / 0x8 % 4 → ⊥) → true ≡ changesFixed old new
+  unfolding changesFixed any
+  changes-write-caps d = rw (ne-eqb _ _ d, or-true)
+
+  pub changes-lock-cap : (old / 0x40 % 2 ≡ new / 0x40 % 2 → ⊥) → true ≡ changesFixed old new
+  unfolding changesFixed any
+  changes-lock-cap d = rw (ne-eqb _ _ d, or-true, or-true)
+
+  pub changes-high : old % 0x4 ≡ new % 0x4 → old / 0x8 % 4 ≡ new / 0x8 % 4 → old / 0x40 % 2 ≡ new / 0x40 % 2
+      → (t : Bool) → t ≡ not (eqb (old / 0x100) (new / 0x100)) → t ≡ changesFixed old new
+  unfolding changesFixed any
+  changes-high a b d t e = rw (eq-eqb _ _ a, eq-eqb _ _ b, eq-eqb _ _ d, or-false) e
+
+-- whether two numbers differ, either way round
+pub differ-comm : (a b : ℕ) → not (eqb a b) ≡ not (eqb b a)
+differ-comm a b = go (eqb a b) refl
+  where
+    go : (t : Bool) → eqb a b ≡ t → not t ≡ not (eqb b a)
+    go true e = ap not (sym (eq-eqb b a (sym (eqb-true a b e))))
+    go false e = ap not (sym (ne-eqb b a (λ q. eqb-false a b e (sym q))))
 
 -- where no fixed bit is changed, the settings agree at every bit but 4 (2 ^ 2), 0x20 (2 ^ 5) and 0x80 (2 ^ 7)
 pub fixed-bits : (old new : ℕ) → changesFixed old new ≡ false → (k : ℕ) → (k ≡ 2 → ⊥) → (k ≡ 5 → ⊥) → (k ≡ 7 → ⊥)

@@ -4,7 +4,7 @@ use native.Mathlib.Omega.{arith}
 use borrow.Author.Needs.{needs}
 use denote.Ref.{now}
 use lib.ListN.{length}
-use Rattle.block_service.proofs.access.Moves.{part-length, read-back}
+use Rattle.block_service.proofs.access.Moves.{read-back}
 use Rattle.block_service.proofs.access.load.Statement.{statement}
 use Rattle.block_service.proofs.access.load.Tie as tie
 
@@ -18,11 +18,11 @@ room c = entry c .pre .1 (omega arith)
 returns : tie.Need-returns
 returns c = search needs
 
-add-at : tie.Need-add-at
-add-at c = omega (arith, room c)
+add-from : tie.Need-add-from
+add-from c = omega (arith, room c)
 
-add-end : tie.Need-add-end
-add-end c = omega (arith, room c)
+add-to : tie.Need-add-to
+add-to c = omega (arith, room c)
 
 sub-copy : tie.Need-sub-copy
 sub-copy c = search needs
@@ -31,10 +31,10 @@ part-copy-start : tie.Need-part-copy-start
 part-copy-start c = search needs
 
 part-copy-end : tie.Need-part-copy-end
-part-copy-end c = room c
+part-copy-end c = omega (arith, room c)
 
 copy-requires : tie.Need-copy-requires
-copy-requires c κs = rw (part-length _ _ _ (room (c .before .before))) (search needs)
+copy-requires c κs = search needs
 
 same-length : tie.Need-same-length
 same-length c = search needs
@@ -43,15 +43,16 @@ returns-2 : tie.Need-returns-2
 returns-2 c =
     let copied = c .before .before in
     let asked = copied .before .before .before in
-    read-back _ _ _ _ _ (room asked) (copied .copy .ensures .1)
+    let a = entry asked .args in
+    read-back (a .start + a .offset) (a .count) _ _ _ (room asked) (copied .copy .ensures .1)
 
 pub load-spec : {M : Type 1} → statement M
 load-spec =
     tie.close
     (tie.spec
     returns
-    add-at
-    add-end
+    add-from
+    add-to
     sub-copy
     part-copy-start
     part-copy-end

@@ -49,18 +49,20 @@ module _ (c : tie.After-wide2 Inv-loop μ-loop) where
   part : turn .loop .rest < count → turn .loop .rest * len ≤ count * len
   part h = mul-le-mul-right {m = turn .loop .rest} {n = count} len (omega arith)
 
-  hit : turn .loop .rest < count
-      → At entry (turn .loop .start + turn .loop .rest * len) len (count - turn .loop .rest) ≡ place words (turn .before .before .args .block)
-  hit h =
-      find-hit words entry count len inside (c .before .before .wide .ensures .0) (c .wide2 .ensures .0) (turn .loop .start) (turn .loop .rest) h
-      ∙ turn .loop .inv .4
+  -- the block is in this entry, or the search goes on with the next one
+  hit : (first left : ℕ) → turn .loop .rest < count → first ≡ turn .loop .start + turn .loop .rest * len → left ≡ count - turn .loop .rest
+      → At entry first len left ≡ place words (turn .before .before .args .block)
+  hit first left h ef el =
+      rw (ef, el)
+      (find-hit words entry count len inside (c .before .before .wide .ensures .0) (c .wide2 .ensures .0) (turn .loop .start) (turn .loop .rest) h
+      ∙ turn .loop .inv .4)
 
-  next : count ≤ turn .loop .rest
-      → placeFrom (drop (2 * (entry + 1)) words) (entry + 1) (turn .loop .start + count * len) (turn .loop .rest - count)
-      ≡ place words (turn .before .before .args .block)
-  next h =
-      find-next words entry count len inside (c .before .before .wide .ensures .0) (c .wide2 .ensures .0) (turn .loop .start) (turn .loop .rest) h
-      ∙ turn .loop .inv .4
+  next : (start rest : ℕ) → count ≤ turn .loop .rest → start ≡ turn .loop .start + count * len → rest ≡ turn .loop .rest - count
+      → placeFrom (drop (2 * (entry + 1)) words) (entry + 1) start rest ≡ place words (turn .before .before .args .block)
+  next start rest h es er =
+      rw (es, er)
+      (find-next words entry count len inside (c .before .before .wide .ensures .0) (c .wide2 .ensures .0) (turn .loop .start) (turn .loop .rest) h
+      ∙ turn .loop .inv .4)
 
 loop-holds : tie.Need-loop-holds Inv-loop μ-loop
 unfolding place
@@ -115,13 +117,13 @@ loop-less : tie.Need-loop-less Inv-loop μ-loop
 loop-less c = search needs
 
 loop-again : tie.Need-loop-again Inv-loop μ-loop
-loop-again c = let read = c .before in (search needs, search needs, omega (arith, known read), search needs, next read (search needs))
+loop-again c = let read = c .before in (search needs, search needs, omega (arith, known read), search needs, next read _ _ (search needs) (omega arith) (omega arith))
 
 returns : tie.Need-returns Inv-loop μ-loop
 returns c = let turn = c .before in find-end _ (turn .loop .entry) _ _ (search needs) ∙ turn .loop .inv .4
 
 returns-2 : tie.Need-returns-2 Inv-loop μ-loop
-returns-2 c = hit (c .before) (search needs)
+returns-2 c = hit (c .before) _ _ (search needs) (omega arith) (omega arith)
 
 pub find-block-spec : {M : Type 1} → statement M
 find-block-spec =

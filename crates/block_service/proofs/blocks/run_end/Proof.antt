@@ -52,9 +52,11 @@ module _ (c : tie.After-wide Inv-loop μ-loop) where
   words = now (turn .before .before .args .words)
 
   -- the entry has blocks enough: the run ends in it
-  stops : turn .loop .rest ≤ turn .loop .here
-      → turn .loop .at + turn .loop .rest * c .wide .result ≡ ends words (turn .loop .i) (turn .loop .at) (turn .loop .here) (turn .loop .rest)
-  stops h = walk-stop (turn .loop .here) (c .wide .result) _ (drop (2 * (turn .loop .i + 1)) words) (turn .loop .rest) (turn .loop .at) (c .wide .ensures .0) h
+  stops : (end : ℕ) → turn .loop .rest ≤ turn .loop .here → end ≡ turn .loop .at + turn .loop .rest * c .wide .result
+      → end ≡ ends words (turn .loop .i) (turn .loop .at) (turn .loop .here) (turn .loop .rest)
+  stops end h e =
+      e
+      ∙ walk-stop (turn .loop .here) (c .wide .result) _ (drop (2 * (turn .loop .i + 1)) words) (turn .loop .rest) (turn .loop .at) (c .wide .ensures .0) h
 
   -- it has not: the next entry starts within the limit, as the run ends within it
   goes-on : turn .loop .here < turn .loop .rest → turn .loop .at + turn .loop .here * c .wide .result ≤ maxLength
@@ -63,10 +65,10 @@ module _ (c : tie.After-wide Inv-loop μ-loop) where
       (arith, walk-on (turn .loop .here) (c .wide .result) _ (drop (2 * (turn .loop .i + 1)) words) (turn .loop .rest) (turn .loop .at) (c .wide .ensures .0) h)
 
 mul-result : tie.Need-mul-result Inv-loop μ-loop
-mul-result c = omega (arith, stops (c .before) (search needs))
+mul-result c = omega (arith, stops (c .before) _ (search needs) refl)
 
 add-result : tie.Need-add-result Inv-loop μ-loop
-add-result c = omega (arith, stops (c .before) (search needs))
+add-result c = omega (arith, stops (c .before) _ (search needs) refl)
 
 mul-at : tie.Need-mul-at Inv-loop μ-loop
 mul-at c = omega (arith, goes-on (c .before) (search needs))
@@ -112,7 +114,7 @@ loop-again c =
     )
 
 returns : tie.Need-returns Inv-loop μ-loop
-returns c = let read = c .before in stops read (search needs) ∙ turn read .loop .inv .2
+returns c = let read = c .before in stops read _ (search needs) (omega arith) ∙ turn read .loop .inv .2
 
 pub run-end-spec : {M : Type 1} → statement M
 run-end-spec =

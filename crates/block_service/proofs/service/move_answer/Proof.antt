@@ -1,4 +1,5 @@
 -- `block_service::service::move_answer` meets its contract.
+use native.Mathlib.Omega.{arith}
 use borrow.Author.Tests.{eq-eqb, ne-eqb}
 use Rattle.block_service.specs.Service.{movedAnswer, moveAnswer}
 use Rattle.block_service.proofs.service.move_answer.Statement.{statement}
@@ -6,11 +7,11 @@ use Rattle.block_service.proofs.service.move_answer.Tie as tie
 
 returns : tie.Need-returns
 unfolding movedAnswer moveAnswer
-returns c = rw (eq-eqb _ _ (c .if1 .taken))
+returns c = let a = c .before .args in rw (eq-eqb (a .count) (a .n) (omega arith))
 
 returns-2 : tie.Need-returns-2
 unfolding movedAnswer moveAnswer
-returns-2 c = rw (ne-eqb _ _ (c .if1 .left))
+returns-2 c = let a = c .before .args in rw (ne-eqb (a .count) (a .n) (λ e. omega arith))
 
 pub move-answer-spec : {M : Type 1} → statement M
 move-answer-spec = tie.close (tie.spec returns returns-2)
