@@ -60,8 +60,8 @@ pub(crate) fn store(
     write_part(attributes, &mut volume[at..end], &new[..count]);
 }
 
-// Writes `new` over the part, byte by byte. The attributes are the same at every byte, so that what is compiled tests them
-// once: a copy, a loop of AND or a loop of OR.
+// Writes `new` over the part, byte by byte. The attributes are the same at every byte, and what is compiled tests them
+// once, before a loop that copies, one of AND or one of OR.
 fn write_part(attributes: u32, part: &mut [u8], new: &[u8])
     requires { ⌜ length (now part) ≡ length (now new) ⌝ }
     ensures { λ _. ⌜ now (part .exit) ≡ edit (λ i old. writtenByte attributes old (getD (now (new .entry)) i 0)) 0 (now (part .entry)) ⌝ }
