@@ -10,7 +10,7 @@ use native.Mathlib.Omega.{arith}
 use borrow.Author.Tests.{lt-ltb, le-ltb, le-leb, lt-leb, ltb-true, ltb-false}
 use lib.Dec.{leb, ltb}
 use lib.ListN.{length, getD, take, drop, set, take-append-drop, length-drop, List·getD-eq-default, drop-of-length-le}
-use lib.Seq.{take-suc-set, drop-cons, drop-set-lt, length-take-le, append-snoc, take-all, ext-getD}
+use lib.Seq.{take-suc-set, drop-cons, drop-set-lt, length-take-le, append-snoc, take-all}
 use Rattle.common.specs.Lists.{edit}
 
 pub length-edit : (f : ℕ → ℕ → ℕ) (k : ℕ) (l : List ℕ) → length (edit f k l) ≡ length l
@@ -60,7 +60,7 @@ unfolding edit
 edit-edit f g k [] = refl
 edit-edit f g k (x ∷ l) = ap (λ (r : List ℕ). f k (g k x) ∷ r) (edit-edit f g (k + 1) l)
 
-pub edit-append : (f : ℕ → ℕ → ℕ) (k : ℕ) (a b : List ℕ) → edit f k (a ++ b) ≡ edit f k a ++ edit f (k + length a) b
+edit-append : (f : ℕ → ℕ → ℕ) (k : ℕ) (a b : List ℕ) → edit f k (a ++ b) ≡ edit f k a ++ edit f (k + length a) b
 unfolding edit
 edit-append f k [] b = rw (add-zero k)
 edit-append f k (x ∷ a) b =
@@ -111,9 +111,3 @@ edit-next h p i v b e =
 pub edit-done : (h : ℕ → ℕ → ℕ) (p : List ℕ) (i : ℕ) → length p ≤ i → editedTo h i p ≡ p
 unfolding edit editedTo
 edit-done h p i b = rw (take-all i p b, drop-of-length-le p {i = i} b) (append-nil p)
-
--- each element replaced by another list's is that list
-pub edit-replace : (p q : List ℕ) → length p ≡ length q → edit (λ i x. getD q i 0) 0 p ≡ q
-edit-replace p q e =
-    ext-getD 0 _ q (length-edit _ 0 p ∙ e)
-    (λ i b. getD-edit (λ j x. getD q j 0) 0 p i (rw (length-edit (λ j x. getD q j 0) 0 p) at b) ∙ ap (λ (j : ℕ). getD q j 0) (zero-add i))

@@ -29,7 +29,7 @@ pub fill-front : (t l : List ℕ) (i : ℕ) → length t ≤ i → take i l ++ d
 fill-front t l i h q = sym (take-append-drop i l) ∙ ap (λ (x : List ℕ). x ++ drop i l) (sym (append-nil (take i l)) ∙ (rw (drop-of-length-le t {i = i} h) at q))
 
 -- equal lists have equal rests
-pub rest-same : {a b : ℕ} {x y : List ℕ} → a ∷ x ≡ b ∷ y → x ≡ y
+rest-same : {a b : ℕ} {x y : List ℕ} → a ∷ x ≡ b ∷ y → x ≡ y
 rest-same e = cc
 
 -- a list of zeros from place i on is one from i + 1 on after a store at i

@@ -16,7 +16,7 @@ use Rattle.block_service.specs.Blocks.{place, inBlock, startOf, lengthOf}
 use Rattle.block_service.specs.Erase.{names, eraseChange}
 use Rattle.volume.specs.Header.{Opens, opened, openVolume}
 use Rattle.block_service.specs.Service.{Call, getAttributes, setAttributes, getPhysicalAddress, getBlockSize, read, write, eraseBlocks}
-use Rattle.block_service.specs.Service.{Effect, reply, refusals, effect, decide, moveAnswer, Result, perform, step}
+use Rattle.block_service.specs.Service.{reply, refusals, effect, decide, moveAnswer, Result, perform, step}
 use Rattle.volume.specs.State.{mapOf, unlawful}
 use Rattle.block_service.specs.declared.blocks.Place.{Place}
 use Rattle.block_service.specs.declared.blocks.Place.the-variants.{At, Missing}
@@ -157,7 +157,7 @@ quiet st n c i h = go (firstRefusal (refusals st n c))
     go (some m) t = t
 
 -- a byte of a set of blocks
-abbrev pub InBlocks : List ℕ → (ℕ → Type 0) → ℕ → Type 0
+abbrev InBlocks : List ℕ → (ℕ → Type 0) → ℕ → Type 0
 InBlocks map D i = (b : ℕ) × D b × T (inBlock map b i)
 
 -- a call copies out no byte of a set of blocks, where a read that starts in one is refused

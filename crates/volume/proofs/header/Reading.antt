@@ -9,7 +9,7 @@ use borrow.Author.Tests.{le-ltb, eq-eqb, ne-eqb, ltb-false}
 use lib.Dec.{eqb}
 use lib.ListN.{length, getD, take, drop, replicate, length-take, length-drop}
 use lib.Seq.{ext-getD, getD-take, getD-drop, take-at, drop-at}
-use Rattle.common.specs.Answers.{Answer, refused, success}
+use Rattle.common.specs.Answers.{refused, success}
 use Rattle.common.specs.Refusals.{firstRefusal, unlessRefused, any}
 use Rattle.common.proofs.Refusals.{row-passed, then-passed, then-refused, front-passed}
 use Rattle.numbers.specs.LittleEndian.{le}
@@ -140,7 +140,7 @@ unfolding headerLengthFault any
 header-length-good h lent a b d e = rw (eq-eqb (h % 8) 0 a, le-ltb h 72 b, le-ltb 320 h d, le-ltb lent h e)
 
 -- the map of a state made of n entries' words
-mapOf-stateOf : (guid : List ℕ) (len a base n : ℕ) (words : List ℕ) → length words ≡ 2 * n → mapOf (stateOf guid len a base n words) ≡ words
+pub mapOf-stateOf : (guid : List ℕ) (len a base n : ℕ) (words : List ℕ) → length words ≡ 2 * n → mapOf (stateOf guid len a base n words) ≡ words
 unfolding mapOf stateOf stateWith
 mapOf-stateOf guid len a base n words e = take-at words _ (2 * n) e
 

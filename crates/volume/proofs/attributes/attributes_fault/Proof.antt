@@ -1,5 +1,5 @@
 -- `volume::attributes::attributes_fault` meets its contract: each test is one of the rule's.
-use mathlib.Core.Path.{_≡_, sym, _∙_}
+use mathlib.Core.Path.{sym, _∙_}
 use mathlib.Core.Bool.{or-true, or-false}
 use borrow.Author.Needs.{needs}
 use Rattle.common.specs.Refusals.{any}

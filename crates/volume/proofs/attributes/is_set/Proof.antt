@@ -1,5 +1,4 @@
 -- `volume::attributes::is_set` meets its contract: no bit has the value 0, and a quotient by 0 is 0.
-use mathlib.Core.Path.{refl}
 use native.Mathlib.Nat.{div-zero}
 use borrow.Author.Needs.{needs}
 use Rattle.volume.proofs.attributes.is_set.Statement.{statement}

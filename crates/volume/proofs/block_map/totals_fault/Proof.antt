@@ -6,7 +6,7 @@ use native.Mathlib.Omega.{arith}
 use borrow.Author.Needs.{needs}
 use denote.Ref.{now}
 use lib.ListN.{length, getD, drop}
-use Rattle.volume.specs.BlockMap.{blocks, bytes, hasZero, maxEntries, maxLength}
+use Rattle.volume.specs.BlockMap.{blocks, bytes, hasZero, maxLength}
 use Rattle.volume.proofs.block_map.Words.{product-fits, blocks-entry, bytes-entry, blocks-end, bytes-end, hasZero-end, zero-size, nonzero-size, zero-word, too-many, too-long, totals-end}
 use Rattle.volume.proofs.block_map.totals_fault.Statement.{statement}
 use Rattle.volume.proofs.block_map.totals_fault.Tie as tie
