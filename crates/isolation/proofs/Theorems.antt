@@ -25,6 +25,6 @@ pub isolated : (D : ℕ → Type 0) (st : State) (v w : List ℕ) (calls : List 
     → length v ≡ length w → Alike (mapOf st) D v w → NoEarlyRead D st v calls → Isolated D st v w calls
 isolated = Isolation.isolated
 
--- from opening on every call of a run meets a lawful state: none is refused with 111
+-- from opening on every call of a run meets a lawful state
 pub opened-run-lawful : (base : ℕ) (st : State) (v : List ℕ) (before : List Call) → openVolume v base ≡ opened st → unlawful (run st v before .state) ≡ false
 opened-run-lawful = Isolation.opened-run-lawful

@@ -49,8 +49,7 @@ header-only = Reading.header-only
 pub limits : (n : ℕ) (words : List ℕ) (len : ℕ) → sizeFault n words len ≡ false → Sized n words len
 limits = Words.size-passed
 
--- what opening answers breaks no rule of 111, "beyond its map entries the state holds zeros" among them, and the volume is lent whole: no call on
--- it answers 111 or 5
+-- what opening answers breaks no rule of 111, "beyond its map entries the state holds zeros" among them, and the volume is lent whole
 pub opened-lawful : (v : List ℕ) (base : ℕ) → openVolume v base .answer ≡ success []
     → (unlawful (openVolume v base .state) ≡ false) × (openVolume v base .state .length ≤ length v)
 opened-lawful = Reading.opened-lawful
