@@ -1,26 +1,18 @@
 -- What a reader wants of the listing, in the order of document 01's words on the lister.
 use Prim.Native.Nat.{ℕ, _+_, _/_, _%_, _≤_, _<_}
-use mathlib.Core.Path.{_≡_, refl}
+use mathlib.Core.Path.{_≡_}
 use mathlib.Core.List.{List, [], _∷_, _++_}
-use lib.ListN.{length, getD, drop, replicate}
+use lib.ListN.{length, getD, drop}
 use Rattle.common.specs.Answers.{refused, success}
 use Rattle.volume.specs.Header.{openVolume, opened}
-use Rattle.volume.specs.State.{mapOf, stateOf, stateWith}
+use Rattle.volume.specs.State.{mapOf}
 use Rattle.volume.specs.declared.state.State.{State}
-use Rattle.listing.specs.Decimal.{decimal, digits, places, placesFrom, zeroDigit}
-use Rattle.listing.specs.Listing.{field, line, linesOf, listVolume, listedRoom, listing, mapLines, maxListing, refusedLine, volumeLine}
+use Rattle.listing.specs.Decimal.{decimal, zeroDigit}
+use Rattle.listing.specs.Listing.{listVolume, listedRoom, listing, mapLines, maxListing, refusedLine, volumeLine}
 use Rattle.listing.proofs.Lines.{lines-opened, lines-refused}
 use Rattle.listing.proofs.Longest.{listing-short}
 use Rattle.listing.proofs.Room.{list-done, list-refused}
 use Rattle.listing.proofs.text.Decimal.{decimal-more, decimal-one}
-
--- "for A prints": `volume\t2048\t3647\t1` and `map\t0\t4\t512`, each line with its line feed; A has attributes 0x0E3F and one entry of 4
--- blocks of 512
-pub sample-lines : linesOf (success []) (stateOf (replicate 16 0) 2048 0x0E3F 0 1 (4 ∷ 512 ∷ []))
-    ≡ 118 ∷ 111 ∷ 108 ∷ 117 ∷ 109 ∷ 101 ∷ 9 ∷ 50 ∷ 48 ∷ 52 ∷ 56 ∷ 9 ∷ 51 ∷ 54 ∷ 52 ∷ 55 ∷ 9 ∷ 49 ∷ 10
-    ∷ 109 ∷ 97 ∷ 112 ∷ 9 ∷ 48 ∷ 9 ∷ 52 ∷ 9 ∷ 53 ∷ 49 ∷ 50 ∷ 10 ∷ []
-unfolding linesOf mapOf stateOf stateWith mapLines line field decimal places placesFrom digits
-sample-lines = refl
 
 -- "the fields are length, attributes, entries; then first block, count, length"
 pub opened-lists : (s : List ℕ) (st : State) → openVolume s 0 ≡ opened st

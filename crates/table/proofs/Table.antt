@@ -21,7 +21,9 @@ use Rattle.sections.specs.Types.{infoAmong, typeInfo}
 use Rattle.sections.specs.Header.{headAt, headFaults, sectionAt, packed, contentsAt, wrongContents}
 use Rattle.sections.specs.Walk.{streamWalk, walk, siblings, meet, afterPadding, zeros, andThen}
 use Rattle.sections.specs.Search.{searchOf, sections, firstFault, ofType}
-use Rattle.table.specs.SampleA.{headerA, sampleA}
+use Rattle.listing.specs.Decimal.{decimal, digits, places, placesFrom}
+use Rattle.listing.specs.Listing.{field, line, linesOf, listing, mapLines}
+use Rattle.table.specs.SampleA.{headerA, sampleA, linesA}
 use Rattle.table.proofs.Instances.{stateA}
 
 -- a call on sample A and the state that opening it answers
@@ -123,3 +125,8 @@ table =
       P13 = refl;
       P13-none = refl;
     }
+
+-- "for A prints": the listing of sample A's bytes, text by text
+pub lister : listing sampleA ≡ linesA
+unfolding opening judging listing linesOf mapLines line field decimal places placesFrom digits linesA
+lister = refl

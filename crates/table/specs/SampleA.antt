@@ -18,3 +18,9 @@ headerA =
 
 unfoldable pub sampleA : List ℕ
 sampleA = headerA ++ replicate 1976 0xFF
+
+-- what the lister prints for it: `volume\t2048\t3647\t1` and `map\t0\t4\t512`, each line with its line feed
+unfoldable pub linesA : List ℕ
+linesA =
+    118 ∷ 111 ∷ 108 ∷ 117 ∷ 109 ∷ 101 ∷ 9 ∷ 50 ∷ 48 ∷ 52 ∷ 56 ∷ 9 ∷ 51 ∷ 54 ∷ 52 ∷ 55 ∷ 9 ∷ 49 ∷ 10
+    ∷ 109 ∷ 97 ∷ 112 ∷ 9 ∷ 48 ∷ 9 ∷ 52 ∷ 9 ∷ 53 ∷ 49 ∷ 50 ∷ 10 ∷ []
