@@ -48,11 +48,11 @@ module _ (s : List ℕ) (at : ℕ) where
 
   -- "202 size below 4 (9 for compression, 24 GUID-defined, 20 free-form GUID)"
   pub header-202 : 4 ≤ length s - at → sizeAt s at < typeInfo (typeAt s at) .least → headAt s at ≡ Fault 202
-  header-202 four small = sym (tests.head-202 s at refl refl refl refl refl four small)
+  header-202 four small = sym (tests.head-202 s at refl refl refl four small)
 
   -- "203 end past the holding stream"
   pub header-203 : 4 ≤ length s - at → typeInfo (typeAt s at) .least ≤ sizeAt s at → length s - at < sizeAt s at → headAt s at ≡ Fault 203
-  header-203 four least past = sym (tests.head-203 s at refl refl refl refl refl four least past)
+  header-203 four least past = sym (tests.head-203 s at refl refl refl four least past)
 
   -- "204 kind 0 with unpacked length not size minus 9, or data offset below 24 or above size", of a holder past 201 to 203
   pub header-204 : Lies s at (typeAt s at) (sizeAt s at) → wrongContents s at ≡ true → headAt s at ≡ Fault 204

@@ -75,13 +75,16 @@ pub(crate) fn aligned(n: usize) -> usize
     (n + 3) / 4 * 4
 }
 
-// Whether the n bytes from a place on are zero; a byte past the end counts as 0.
+// Whether the n bytes from a place on are zero; a byte past the end counts as 0, so the test stops there.
 fn zero_bytes(s: &[u8], at: usize, n: usize) -> bool
     requires { ⌜ at + n < 2 ^ 64 ⌝ }
     ensures { λ r. ⌜ r ≡ zeros (now (s .entry)) at n ⌝ }
 {
     let mut i = 0;
     while i < n {
+        if s.len() <= at + i {
+            return true;
+        }
         if numbers::byte_at(s, at + i) != 0 {
             return false;
         }

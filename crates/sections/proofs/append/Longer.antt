@@ -138,7 +138,7 @@ module _ (s : List ℕ) (sectionType : ℕ) (body : List ℕ) where
     leaf-head : headAt after start ≡ Closed sectionType (start + 4) finish
     leaf-head =
         let n = after-length in
-        sym (head-leaf after start {info = typeInfo sectionType} (sym leaf-type) refl (sym (leaf-size small)) refl refl leaves (omega arith) least (omega arith) refl (omega arith))
+        sym (head-leaf after start {info = typeInfo sectionType} (sym leaf-type) (sym (leaf-size small)) refl leaves (omega arith) least (omega arith) refl (omega arith))
 
     -- the new section on the walk
     abbrev new : ℕ → Trace

@@ -1,5 +1,5 @@
 -- What the reader of a section header meets, test by test, in order: 201 to 203, then the holder's own fields and 204.
-use Prim.Native.Nat.{ℕ, _+_, _-_, _%_, _≤_, _<_}
+use Prim.Native.Nat.{ℕ, _+_, _-_, _*_, _/_, _%_, _^_, _≤_, _<_}
 use mathlib.Core.Path.{_≡_, sym, ap, _∙_}
 use mathlib.Core.Bool.{Bool, true, false, cond, _&&_}
 use mathlib.Core.List.{List}
@@ -16,6 +16,14 @@ use Rattle.sections.specs.declared.types.TypeInfo.{TypeInfo}
 use Rattle.sections.specs.declared.header.Head.the-variants.{Fault, Closed, Open}
 use Rattle.sections.proofs.types.Rows.{least-range}
 
+-- a header's first four bytes as one number: the size is that modulo 2 ^ 24, the type that by 2 ^ 24
+pub word-parts : (s : List ℕ) (at : ℕ) {a b c d word : ℕ} → a ≡ getD s at 0 → b ≡ getD s (at + 1) 0 → c ≡ getD s (at + 2) 0 → d ≡ typeAt s at
+    → a < 256 → b < 256 → c < 256 → d < 256 → word ≡ a + 256 * b + 65536 * c + 16777216 * d → (word % 2 ^ 24 ≡ sizeAt s at) × (word / 2 ^ 24 ≡ typeAt s at)
+unfolding le
+word-parts s at ea eb ec ed ha hb hc hd w =
+    let third : getD s (at + 1 + 1) 0 ≡ getD s (at + 2) 0 = ap (λ (i : ℕ). getD s i 0) (omega arith) in
+    (omega arith, omega arith)
+
 -- the reader's tests, in order, over the type, the size and the class that it read
 pub head-201 : (s : List ℕ) (at : ℕ) → length s - at < 4 → Fault 201 ≡ headAt s at
 unfolding headAt headFaults firstRefusal
@@ -30,15 +38,9 @@ head-past-203 s at a b h true e =
 head-past-203 s at a b h false e =
     rw (le-ltb (length s - at) 4 a, le-ltb (sizeAt s at) (typeInfo (typeAt s at) .least) b, le-ltb (length s - at) (sizeAt s at) h, e)
 
--- over what the reader read: a type byte and a size, at places that are the header's, and what the type stands for
-module _ (s : List ℕ) (at : ℕ) {p q sectionType size : ℕ} {info : TypeInfo} (typed : sectionType ≡ getD s p 0) (tp : p ≡ at + 3)
-    (sized : size ≡ le 3 s q) (sp : q ≡ at) (known : info ≡ typeInfo sectionType) where
-  the-type : sectionType ≡ typeAt s at
-  the-type = rw tp at typed
-
-  the-size : size ≡ sizeAt s at
-  the-size = rw sp at sized
-
+-- over what the reader read: the header's type and size, and what the type stands for
+module _ (s : List ℕ) (at : ℕ) {sectionType size : ℕ} {info : TypeInfo} (the-type : sectionType ≡ typeAt s at) (the-size : size ≡ sizeAt s at)
+    (known : info ≡ typeInfo sectionType) where
   is-known : info ≡ typeInfo (typeAt s at)
   is-known = known ∙ ap typeInfo the-type
 

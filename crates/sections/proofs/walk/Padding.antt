@@ -1,6 +1,6 @@
 -- Laws of padding: the test that its bytes are zero, byte by byte, and what follows a section by that test.
 use Prim.Native.Nat.{ℕ, zero, suc, _+_, _-_, _≤_, _<_}
-use mathlib.Core.Path.{_≡_, refl}
+use mathlib.Core.Path.{_≡_, refl, sym}
 use mathlib.Core.Bool.{Bool, true, false}
 use mathlib.Core.List.{List}
 use mathlib.Core.Option.{Option, none, some}
@@ -41,6 +41,9 @@ pub zeros-past : (s : List ℕ) (at n : ℕ) → length s ≤ at → zeros s at 
 unfolding zeros
 zeros-past s at zero h = refl
 zeros-past s at (suc n) h = rw (List·getD-eq-default s 0 h) (zeros-past s (at + 1) n (omega arith))
+
+pub zeros-ended : (s : List ℕ) (at n i : ℕ) → length s ≤ at + i → true ≡ zeros s (at + i) (n - i)
+zeros-ended s at n i h = sym (zeros-past s (at + i) (n - i) h)
 
 -- after a section that ends at byte e: the walk at the next start, or 207
 pub padding-zero : (s : List ℕ) (e : ℕ) (rest : ℕ → Trace) → zeros s e (aligned e - e) ≡ true → afterPadding s e rest ≡ rest (aligned e)

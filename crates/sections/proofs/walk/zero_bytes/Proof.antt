@@ -4,7 +4,7 @@ use mathlib.Core.Path.{_≡_, _∙_}
 use native.Mathlib.Omega.{arith}
 use borrow.Author.Needs.{needs}
 use Rattle.sections.specs.Walk.{zeros}
-use Rattle.sections.proofs.walk.Padding.{zeros-whole, zeros-end, zeros-stop, zeros-more}
+use Rattle.sections.proofs.walk.Padding.{zeros-whole, zeros-end, zeros-ended, zeros-stop, zeros-more}
 use Rattle.sections.proofs.walk.zero_bytes.Statement.{statement}
 use Rattle.sections.proofs.walk.zero_bytes.Tie as tie
 
@@ -17,14 +17,20 @@ abbrev μ-loop : tie.MeasureT-loop
 loop-holds : tie.Need-loop-holds Inv-loop μ-loop
 loop-holds c = (search needs, zeros-whole _ _ _)
 
+add-if1 : tie.Need-add-if1 Inv-loop μ-loop
+add-if1 c = search needs
+
+returns : tie.Need-returns Inv-loop μ-loop
+returns c = let turn = c .before .before in zeros-ended _ _ _ _ (search needs) ∙ turn .loop .inv .1
+
 add-byte-at : tie.Need-add-byte-at Inv-loop μ-loop
 add-byte-at c = search needs
 
 byte-at-requires : tie.Need-byte-at-requires Inv-loop μ-loop
 byte-at-requires c κs = search needs
 
-returns : tie.Need-returns Inv-loop μ-loop
-returns c = zeros-stop _ _ _ _ (search needs) (omega arith) ∙ c .before .before .before .loop .inv .1
+returns-2 : tie.Need-returns-2 Inv-loop μ-loop
+returns-2 c = let turn = c .before .before .before .before in zeros-stop _ _ _ _ (search needs) (omega arith) ∙ turn .loop .inv .1
 
 add-i : tie.Need-add-i Inv-loop μ-loop
 add-i c = search needs
@@ -33,10 +39,10 @@ loop-less : tie.Need-loop-less Inv-loop μ-loop
 loop-less c = search needs
 
 loop-again : tie.Need-loop-again Inv-loop μ-loop
-loop-again c = (search needs, zeros-more _ _ _ _ (search needs) (search needs) ∙ c .before .before .before .loop .inv .1)
+loop-again c = let turn = c .before .before .before .before in (search needs, zeros-more _ _ _ _ (search needs) (search needs) ∙ turn .loop .inv .1)
 
-returns-2 : tie.Need-returns-2 Inv-loop μ-loop
-returns-2 c = zeros-end _ _ _ _ (search needs) ∙ c .before .loop .inv .1
+returns-3 : tie.Need-returns-3 Inv-loop μ-loop
+returns-3 c = zeros-end _ _ _ _ (search needs) ∙ c .before .loop .inv .1
 
 pub zero-bytes-spec : {M : Type 1} → statement M
 zero-bytes-spec =
@@ -45,10 +51,12 @@ zero-bytes-spec =
     Inv-loop
     μ-loop
     loop-holds
+    add-if1
+    returns
     add-byte-at
     byte-at-requires
-    returns
+    returns-2
     add-i
     loop-less
     loop-again
-    returns-2)
+    returns-3)
