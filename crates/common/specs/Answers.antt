@@ -2,6 +2,7 @@
 -- such an answer with the values that it carries; each enum of the code has a definition that gives the answer of each of its cases.
 use Prim.Native.Nat.{ℕ}
 use mathlib.Core.List.{List, []}
+use mathlib.Core.Option.{Option, none, some}
 
 -- a refusal with its number, success with the values answered, or short (document 01's answer 4) with the count
 pub data Answer : Type 0 where
@@ -20,3 +21,9 @@ unfoldable pub valuesOf : Answer → List ℕ
 valuesOf (refused n) = []
 valuesOf (success values) = values
 valuesOf (short values) = values
+
+-- the refusal that an answer is, where it is one
+abbrev pub refusalIn : Answer → Option ℕ
+refusalIn (refused n) = some n
+refusalIn (success values) = none
+refusalIn (short values) = none

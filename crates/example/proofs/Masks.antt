@@ -27,7 +27,7 @@ use Rattle.block_service.proofs.service.Erasing.{erase-named, empty-list}
 use Rattle.block_service.proofs.service.Kept.{length-kept}
 use Rattle.block_service.proofs.service.Moving.{write-named, write-in-block}
 use Rattle.block_service.proofs.service.Steps.{allowed-step, begun, effect-answers, lent-none, passed, passed-erase, passed-success, passed-write, refused-changes-nothing}
-use Rattle.example.specs.Mask.{Masked, masked, unlessAnswered, putMask}
+use Rattle.example.specs.Mask.{Masked, masked, unlessRefusedBy, putMask}
 
 -- a byte written over an erased one is the byte itself
 written-erased : (a x : ℕ) → x < 256 → writtenByte a (erasedByte a) x ≡ x
@@ -67,7 +67,7 @@ module _ (v mask : List ℕ) (base block : ℕ) where
   pub mask-there : (k : ℕ) → putMask v base block mask .answer ≡ success (k ∷ []) → (st : State) → openVolume v base ≡ opened st
       → (e s l r : ℕ) → place (mapOf st) block ≡ At e s l r
       → (j : ℕ) → j < length mask → getD mask j 0 < 256 → getD (putMask v base block mask .volume) (s + j) 0 ≡ getD mask j 0
-  unfolding putMask unlessAnswered
+  unfolding putMask
   mask-there k done st o e s l r at j inside small = rw o (go (erased .answer) refl (rw o at done))
     where
       list : List ℕ
@@ -92,8 +92,8 @@ module _ (v mask : List ℕ) (base block : ℕ) where
           subst (λ (i : ℕ). getD (written .volume) i 0 ≡ getD mask j 0) (ap (λ (i : ℕ). i + j) (add-zero s))
           (merged ∙ rw old (written-erased (st .attributes) (getD mask j 0) small))
 
-      go : (a : Answer) → erased .answer ≡ a → unlessAnswered a v (masked (written .answer) (written .volume)) .answer ≡ success (k ∷ [])
-          → getD (unlessAnswered a v (masked (written .answer) (written .volume)) .volume) (s + j) 0 ≡ getD mask j 0
+      go : (a : Answer) → erased .answer ≡ a → unlessRefusedBy a v (masked (written .answer) (written .volume)) .answer ≡ success (k ∷ [])
+          → getD (unlessRefusedBy a v (masked (written .answer) (written .volume)) .volume) (s + j) 0 ≡ getD mask j 0
       go (refused n) q d = absurd (let z : _≡_ {A = ℕ} 0 1 = cc in omega arith)
       go (success values) q d = there values q d
       go (short values) q d =
@@ -146,7 +146,7 @@ module _ (st : State) (v mask : List ℕ) (block n : ℕ)
           ∙ ap (λ (r : Result). r .volume) (empty-list st v (1 ∷ endOfList ∷ []) lawful-state (b .long) (b .on))
 
 pub refused-keeps : (v mask : List ℕ) (base block n : ℕ) → putMask v base block mask .answer ≡ refused n → putMask v base block mask .volume ≡ v
-unfolding putMask unlessAnswered
+unfolding putMask
 refused-keeps v mask base block n = opening (openVolume v base .answer)
   where
     st : State
@@ -162,13 +162,13 @@ refused-keeps v mask base block n = opening (openVolume v base .answer)
     writing fresh q =
         ap (λ (r : Result). r .volume) (refused-changes-nothing st _ (write block 0 mask) n q) ∙ nothing-erased st v mask block n (passed st v (eraseBlocks list) fresh) q
 
-    erasing : (a : Answer) → step st v (eraseBlocks list) .answer ≡ a → unlessAnswered a v wrote .answer ≡ refused n → unlessAnswered a v wrote .volume ≡ v
+    erasing : (a : Answer) → step st v (eraseBlocks list) .answer ≡ a → unlessRefusedBy a v wrote .answer ≡ refused n → unlessRefusedBy a v wrote .volume ≡ v
     erasing (refused m) e q = refl
     erasing (success values) e q = writing (λ m x. let z : _≡_ {A = ℕ} 0 1 = cc in omega arith) q
     erasing (short values) e q = writing (λ m x. let z : _≡_ {A = ℕ} 0 1 = cc in omega arith) q
 
-    opening : (a : Answer) → unlessAnswered a v (unlessAnswered (step st v (eraseBlocks list) .answer) v wrote) .answer ≡ refused n
-        → unlessAnswered a v (unlessAnswered (step st v (eraseBlocks list) .answer) v wrote) .volume ≡ v
+    opening : (a : Answer) → unlessRefusedBy a v (unlessRefusedBy (step st v (eraseBlocks list) .answer) v wrote) .answer ≡ refused n
+        → unlessRefusedBy a v (unlessRefusedBy (step st v (eraseBlocks list) .answer) v wrote) .volume ≡ v
     opening (refused m) q = refl
     opening (success values) q = erasing (step st v (eraseBlocks list) .answer) refl q
     opening (short values) q = erasing (step st v (eraseBlocks list) .answer) refl q

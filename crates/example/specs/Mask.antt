@@ -1,7 +1,8 @@
 -- The example's definitions: what putting a mask into a volume answers and leaves, by the library's definitions of its calls.
 use Prim.Native.Nat.{ℕ}
 use mathlib.Core.List.{List, [], _∷_}
-use Rattle.common.specs.Answers.{Answer, refused, success, short}
+use Rattle.common.specs.Answers.{Answer, refused, refusalIn}
+use Rattle.common.specs.Refusals.{unlessRefused}
 use Rattle.volume.specs.Header.{openVolume}
 use Rattle.block_service.specs.Erase.{endOfList}
 use Rattle.block_service.specs.Service.{step, eraseBlocks, write}
@@ -15,10 +16,8 @@ abbrev pub masked : Answer → List ℕ → Masked
 masked answer volume = record { answer = answer; volume = volume }
 
 -- a refusal ends the work, with its number and the volume as it was; else the work goes on
-unfoldable pub unlessAnswered : Answer → List ℕ → Masked → Masked
-unlessAnswered (refused n) volume next = masked (refused n) volume
-unlessAnswered (success values) volume next = next
-unlessAnswered (short values) volume next = next
+abbrev pub unlessRefusedBy : Answer → List ℕ → Masked → Masked
+unlessRefusedBy answer volume next = unlessRefused (λ n. masked (refused n) volume) (refusalIn answer) next
 
 -- the volume is opened, the block erased, and the mask written at the block's start, each only where the one before was not refused
 unfoldable pub putMask : List ℕ → ℕ → ℕ → List ℕ → Masked
@@ -26,4 +25,4 @@ putMask volume base block mask =
     let opened = openVolume volume base in
     let erased = step (opened .state) volume (eraseBlocks (block ∷ 1 ∷ endOfList ∷ [])) in
     let written = step (opened .state) (erased .volume) (write block 0 mask) in
-    unlessAnswered (opened .answer) volume (unlessAnswered (erased .answer) volume (masked (written .answer) (written .volume)))
+    unlessRefusedBy (opened .answer) volume (unlessRefusedBy (erased .answer) volume (masked (written .answer) (written .volume)))

@@ -16,9 +16,15 @@ maxBlocks = 65536
 abbrev pub maxLength : ℕ
 maxLength = 16777216
 
--- header length is 64 + 8 times the number of map entries
+-- "header length is 64 + 8 times the number of map entries": the fields and the closing pair, and a pair of words for each entry
+abbrev pub emptyHeader : ℕ
+emptyHeader = 64
+
+abbrev pub entryLength : ℕ
+entryLength = 8
+
 abbrev pub headerLength : ℕ → ℕ
-headerLength n = 64 + 8 * n
+headerLength n = emptyHeader + entryLength * n
 
 -- the number of blocks: the sum of the counts
 unfoldable pub blocks : List ℕ → ℕ

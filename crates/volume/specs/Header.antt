@@ -10,7 +10,7 @@ use Rattle.common.specs.Answers.{Answer, refused, success}
 use Rattle.common.specs.Refusals.{Row, row, firstRefusal, unlessRefused, any}
 use Rattle.numbers.specs.LittleEndian.{le}
 use Rattle.volume.specs.Attributes.{attributesFault, baseFault}
-use Rattle.volume.specs.BlockMap.{headerLength, maxEntries, hasZero, sizeFault}
+use Rattle.volume.specs.BlockMap.{emptyHeader, entryLength, headerLength, maxEntries, hasZero, sizeFault}
 use Rattle.volume.specs.State.{stateOf, zeroState, mapOf}
 use Rattle.volume.specs.declared.state.State.{State}
 use Rattle.volume.specs.declared.header.Opening.{Opening}
@@ -61,7 +61,7 @@ headerLengthAt s = le 2 s 48
 
 -- the number of map entries that a header length stands for
 abbrev pub entriesOf : ℕ → ℕ
-entriesOf h = (h - 64) / 8
+entriesOf h = (h - emptyHeader) / entryLength
 
 -- k 32-bit words from byte `at` on
 unfoldable pub wordsAt : ℕ → List ℕ → ℕ → List ℕ
@@ -88,11 +88,11 @@ stateAt s base =
 
 -- 104: header length not a multiple of 8, below 72, above 320 or past the lent bytes
 unfoldable pub headerLengthFault : ℕ → ℕ → Bool
-headerLengthFault h lent = any (not (eqb (h % 8) 0) ∷ ltb h minHeader ∷ ltb maxHeader h ∷ ltb lent h ∷ [])
+headerLengthFault h lent = any (not (eqb (h % entryLength) 0) ∷ ltb h minHeader ∷ ltb maxHeader h ∷ ltb lent h ∷ [])
 
 -- 106: a map pair before the last has a zero count or zero length, or the last is not 0, 0
 unfoldable pub mapFault : List ℕ → State → Bool
-mapFault s st = hasZero (mapOf st) || not (eqb (le 8 s (headerLengthAt s - 8)) 0)
+mapFault s st = hasZero (mapOf st) || not (eqb (le 8 s (headerLengthAt s - entryLength)) 0)
 
 -- the refusals of opening, in order; `st` is what the state would be
 unfoldable pub openRefusals : List ℕ → State → List Row

@@ -13,12 +13,17 @@ pub const MAX_BLOCKS: u64 = 65536;
 
 pub const MAX_LENGTH: u64 = 16777216;
 
+// The length of a header without its map entries, the closing pair counted, and of a map entry.
+pub(crate) const EMPTY_HEADER: usize = 64;
+
+pub(crate) const ENTRY_LENGTH: usize = 8;
+
 // The length of the header of n map entries.
 pub(crate) fn header_length(n: usize) -> usize
     requires { ⌜ n ≤ maxEntries ⌝ }
     ensures { λ r. ⌜ r ≡ headerLength n ⌝ }
 {
-    64 + 8 * n
+    EMPTY_HEADER + ENTRY_LENGTH * n
 }
 
 // Whether some word is zero.

@@ -6,10 +6,12 @@ ghost use lib.ListN.{length, take, drop, replicate};
 ghost use Rattle.common.specs.Answers.{refused};
 ghost use Rattle.common.specs.Refusals.{firstRefusal};
 ghost use Rattle.volume.specs.Header.{headerLengthAt, headerLengthFault, mapStart, maxHeader, openRefusals, openVolume, openingAnswer, opens, refusalOf, stateAt, wordSum, wordsAt};
-ghost use Rattle.volume.specs.BlockMap.{maxEntries};
+ghost use Rattle.volume.specs.BlockMap.{emptyHeader, entryLength, maxEntries};
 ghost use Rattle.volume.specs.State.{zeroState};
 use crate::attributes::attributes_fault;
 use crate::attributes::base_fault;
+use crate::block_map::EMPTY_HEADER;
+use crate::block_map::ENTRY_LENGTH;
 use crate::block_map::has_zero;
 use crate::block_map::map_fault;
 use crate::state::State;
@@ -112,13 +114,13 @@ fn bytes_refusal(s: &[u8]) -> Opening
 
 // The table's other rows, 106 to 110, with what the state would be.
 fn fields_refusal(s: &[u8], st: State) -> Opening
-    requires { ⌜ (2 * st .entries ≤ 64) × (8 ≤ headerLengthAt (now s)) ⌝ }
+    requires { ⌜ (2 * st .entries ≤ 2 * maxEntries) × (entryLength ≤ headerLengthAt (now s)) ⌝ }
     ensures { λ r. ⌜ refusalOf r ≡ firstRefusal (drop 5 (openRefusals (now (s .entry)) st)) ⌝ }
 {
     let n = st.entries;
     let map = st.map;
     let end = 2 * n;
-    let closing = numbers::u16_at(s, HEADER_LENGTH) as usize - 8;
+    let closing = numbers::u16_at(s, HEADER_LENGTH) as usize - ENTRY_LENGTH;
     if has_zero(&map[..end]) {
         return Opening::Refused(106);
     }
@@ -144,7 +146,7 @@ fn fields_refusal(s: &[u8], st: State) -> Opening
 fn header_length_fault(header: usize, lent: usize) -> bool
     ensures { λ r. ⌜ r ≡ headerLengthFault header lent ⌝ }
 {
-    if header % 8 != 0 {
+    if header % ENTRY_LENGTH != 0 {
         return true;
     }
     if header < SHORTEST_HEADER {
@@ -172,10 +174,10 @@ pub(crate) fn word_sum(s: &[u8]) -> u64
 
 // The state that a header and a base give.
 fn state_at(s: &[u8], base: u64) -> State
-    requires { ⌜ (32 ≤ length (now s)) × (64 ≤ headerLengthAt (now s)) × (headerLengthAt (now s) ≤ maxHeader) ⌝ }
+    requires { ⌜ (32 ≤ length (now s)) × (emptyHeader ≤ headerLengthAt (now s)) × (headerLengthAt (now s) ≤ maxHeader) ⌝ }
     ensures { λ r. ⌜ r ≡ stateAt (now (s .entry)) base ⌝ }
 {
-    let entries = (numbers::u16_at(s, HEADER_LENGTH) as usize - 64) / 8;
+    let entries = (numbers::u16_at(s, HEADER_LENGTH) as usize - EMPTY_HEADER) / ENTRY_LENGTH;
     let guid = guid_at(s);
     let map = map_at(s, entries);
     state_with(
