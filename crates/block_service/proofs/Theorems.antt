@@ -4,23 +4,27 @@
 use Prim.Native.Nat.{ℕ, _+_, _-_, _*_, _/_, _%_, _^_, _≤_, _<_}
 use mathlib.Core.Bool.{true, false, not, _&&_}
 use mathlib.Core.List.{List, [], _∷_, _++_}
+use mathlib.Core.Option.{some}
 use mathlib.Core.Path.{_≡_, sym}
 use lib.Bits.{bitAnd, bitOr}
 use lib.Dec.{T, eqb}
-use lib.ListN.{length, getD}
+use lib.ListN.{length, getD, take, drop}
 use Rattle.common.specs.Answers.{refused, success}
+use Rattle.common.specs.Lists.{edit}
+use Rattle.common.specs.Refusals.{firstRefusal}
 use Rattle.volume.specs.Attributes.{flag, readStatus, writeStatus, lockStatus, stickyWrite, memoryMapped, erasePolarity}
 use Rattle.volume.specs.BlockMap.{blocks}
 use Rattle.volume.specs.State.{mapOf, unlawful}
 use Rattle.volume.specs.declared.state.State.{State}
-use Rattle.block_service.specs.Access.{countMoved, writtenByte, erasedByte}
+use Rattle.block_service.specs.Access.{countMoved, writtenByte, erasedByte, changedByte, writeChange}
 use Rattle.block_service.specs.Blocks.{place, inBlock}
-use Rattle.block_service.specs.Erase.{endOfList, goodList, names}
-use Rattle.block_service.specs.Service.{Call, getPhysicalAddress, setAttributes, getBlockSize, read, write, eraseBlocks}
-use Rattle.block_service.specs.Service.{moveAnswer, withAttributes, result, bufferOf, step}
+use Rattle.block_service.specs.Erase.{endOfList, goodList, names, eraseChange}
+use Rattle.block_service.specs.Service.{Call, getAttributes, getPhysicalAddress, setAttributes, getBlockSize, read, write, eraseBlocks}
+use Rattle.block_service.specs.Service.{refusals, moveAnswer, withAttributes, result, bufferOf, step}
 use Rattle.block_service.specs.Settings.{changesFixed, lacksCapability}
 use Rattle.block_service.specs.declared.blocks.Place.the-variants.{At}
 use Rattle.block_service.proofs.access.Moves as Moves
+use Rattle.block_service.proofs.blocks.Places as Places
 use Rattle.block_service.proofs.settings.Rules as Rules
 use Rattle.block_service.proofs.service.Erasing as Erasing
 use Rattle.block_service.proofs.service.Kept as Kept
@@ -42,6 +46,12 @@ pub set-stores-nothing : (st : State) (v : List ℕ) (new : ℕ) → step st v (
 set-stores-nothing = Setting.set-stores-nothing
 
 -- ---- refusals
+
+-- "given exactly when", "first that applies": a call is refused with a number exactly where that is the number of the first row of its table that applies
+pub refused-exactly : (st : State) (v : List ℕ) (c : Call) (n : ℕ)
+    → (step st v c .answer ≡ refused n → firstRefusal (refusals st (length v) c) ≡ some n)
+    × (firstRefusal (refusals st (length v) c) ≡ some n → step st v c .answer ≡ refused n)
+refused-exactly = Steps.refused-exactly
 
 -- "Service calls use 111, then 5, then 15, then 2": 111 first, at every call
 pub order-111 : (st : State) (v : List ℕ) (c : Call) → unlawful st ≡ true → step st v c ≡ result (refused 111) st v (bufferOf c)
@@ -78,10 +88,52 @@ pub order-2-size : (st : State) (v : List ℕ) (b : ℕ) → unlawful st ≡ fal
     → step st v (getBlockSize b) ≡ result (refused 2) st v []
 order-2-size = Steps.order-2-size
 
+-- no row applies: with a lawful state, the volume lent whole, reads enabled and a block that is there, a read is not refused; it answers the count and
+-- fills the buffer by the block's place, and the state and the volume stay
+pub read-allowed : (st : State) (v : List ℕ) → unlawful st ≡ false → st .length ≤ length v → flag (st .attributes) readStatus ≡ true
+    → (b o : ℕ) (buffer : List ℕ) → b < blocks (mapOf st)
+    → ((n : ℕ) → step st v (read b o buffer) .answer ≡ refused n → ⊥)
+    × ((e : ℕ) × (s : ℕ) × (l : ℕ) × (r : ℕ) × (place (mapOf st) b ≡ At e s l r)
+    × (step st v (read b o buffer)
+    ≡ result (moveAnswer (countMoved l o (length buffer)) (length buffer)) st v
+    (take (countMoved l o (length buffer)) (drop (s + o) v) ++ drop (countMoved l o (length buffer)) buffer)))
+read-allowed = Moving.read-allowed
+
+-- with writes enabled neither is a write; it answers the count and changes the bytes of its stretch, and the state stays
+pub write-allowed : (st : State) (v : List ℕ) → unlawful st ≡ false → st .length ≤ length v → flag (st .attributes) writeStatus ≡ true
+    → (b o : ℕ) (new : List ℕ) → b < blocks (mapOf st)
+    → ((n : ℕ) → step st v (write b o new) .answer ≡ refused n → ⊥)
+    × ((e : ℕ) × (s : ℕ) × (l : ℕ) × (r : ℕ) × (place (mapOf st) b ≡ At e s l r)
+    × (step st v (write b o new)
+    ≡ result (moveAnswer (countMoved l o (length new)) (length new)) st
+    (edit (λ i old. changedByte (st .attributes) (writeChange (s + o) (countMoved l o (length new)) new i) old) 0 v) []))
+write-allowed = Moving.write-allowed
+
+-- and an erase with a good list succeeds
+pub erase-allowed : (st : State) (v list : List ℕ) → unlawful st ≡ false → st .length ≤ length v → flag (st .attributes) writeStatus ≡ true
+    → goodList (blocks (mapOf st)) list ≡ true
+    → step st v (eraseBlocks list)
+    ≡ result (success []) st (edit (λ i old. changedByte (st .attributes) (eraseChange (mapOf st) list i) old) 0 v) []
+erase-allowed = Erasing.erase-allowed
+
+-- the calls that are not lent the volume, of a lawful state: the settings are read
+pub settings-read : (st : State) (v : List ℕ) → unlawful st ≡ false → step st v getAttributes ≡ result (success (st .attributes ∷ [])) st v []
+settings-read = Steps.settings-read
+
+-- the size of a block that is there is answered, by its place
+pub size-answered : (st : State) (v : List ℕ) (b : ℕ) → unlawful st ≡ false → b < blocks (mapOf st)
+    → (e : ℕ) × (s : ℕ) × (l : ℕ) × (r : ℕ) × (place (mapOf st) b ≡ At e s l r) × (step st v (getBlockSize b) ≡ result (success (l ∷ r ∷ [])) st v [])
+size-answered = Sizes.size-answered
+
 -- "the base address uses 111, then 3"
 pub order-3 : (st : State) (v : List ℕ) → unlawful st ≡ false → flag (st .attributes) memoryMapped ≡ false
     → step st v getPhysicalAddress ≡ result (refused 3) st v []
 order-3 = Steps.order-3
+
+-- and the base address of a volume that is memory mapped is answered
+pub address-read : (st : State) (v : List ℕ) → unlawful st ≡ false → flag (st .attributes) memoryMapped ≡ true
+    → step st v getPhysicalAddress ≡ result (success (st .base ∷ [])) st v []
+address-read = Steps.address-read
 
 -- "A refusal carries no value but its number; the state stays, and no lent byte changes"
 pub refused-changes-nothing : (st : State) (v : List ℕ) (c : Call) (n : ℕ) → step st v c .answer ≡ refused n
@@ -104,10 +156,22 @@ lawful-kept = Kept.lawful-kept
 
 -- ---- blocks
 
--- "Blocks are numbered from 0 through the map in order": every byte below a lawful state's length lies in exactly one block
+-- "Blocks are numbered from 0": block 0 starts at byte 0 and is the first of the first entry's c blocks, of its length l
+pub first-block : (c l : ℕ) (rest : List ℕ) → 0 < c → place (c ∷ l ∷ rest) 0 ≡ At 0 0 l c
+first-block = Places.first-block
+
+-- "through the map in order": the next block starts where a block ends
+pub next-block : (m : List ℕ) (b e s l r e' s' l' r' : ℕ) → place m b ≡ At e s l r → place m (b + 1) ≡ At e' s' l' r' → s' ≡ s + l
+next-block = Places.next-block
+
+-- so every byte below a lawful state's length lies in exactly one block
 pub one-block : (st : State) → unlawful st ≡ false → (i : ℕ) → i < st .length
     → (b : ℕ) × (T (inBlock (mapOf st) b i)) × ((a : ℕ) → T (inBlock (mapOf st) a i) → a ≡ b)
 one-block = Sizes.one-block
+
+-- "The first map entry that holds the block settles its place; nothing after it is consulted"
+pub entry-settles : (m rest : List ℕ) (b : ℕ) → b < blocks m → place (m ++ rest) b ≡ place m b
+entry-settles = Places.entry-settles
 
 -- "Block size answers the length, and the number of blocks from the one asked to the end of its map entry, itself included": a block that it answers
 -- for is there, in an entry e, with that length and that number
@@ -123,7 +187,12 @@ run-in-entry = Sizes.run-in-entry
 
 -- ---- read and write, of a block that starts at byte s and has length l
 
--- "the count is the smaller of the lent data length and L minus offset, or 0 where offset exceeds L"
+-- "the count is the smaller of the lent data length and L minus offset"
+pub count-smaller : (len offset n : ℕ) → offset ≤ len
+    → (n ≤ len - offset → countMoved len offset n ≡ n) × (len - offset ≤ n → countMoved len offset n ≡ len - offset)
+count-smaller = Moves.count-smaller
+
+-- "or 0 where offset exceeds L"
 pub count-none : (len offset n : ℕ) → len ≤ offset → countMoved len offset n ≡ 0
 count-none = Moves.count-none
 
@@ -179,6 +248,10 @@ written-and = Moves.written-and
 -- "old OR new where it is 0"
 pub written-or : (a old new : ℕ) → flag a stickyWrite ≡ true → flag a erasePolarity ≡ false → writtenByte a old new ≡ bitOr old new
 written-or = Moves.written-or
+
+-- so a write to an erased byte stores it, sticky or not
+pub written-erased : (a x : ℕ) → x < 256 → writtenByte a (erasedByte a) x ≡ x
+written-erased = Moves.written-erased
 
 -- ---- erase
 

@@ -1,44 +1,33 @@
 -- What putting a mask comes to: a refusal changes no byte, and a mask that was put with success is there bit for bit.
 use Prim.Native.Nat.{ℕ, _+_, _<_, _≤_}
 use mathlib.Core.Path.{_≡_, refl, sym, ap, subst, _∙_}
-use mathlib.Core.Bool.{Bool, true, false, not, cond, _&&_, _||_, true≢false}
+use mathlib.Core.Bool.{Bool, true, false, cond, _&&_, _||_, true≢false}
 use mathlib.Core.List.{List, [], _∷_}
 use mathlib.Core.Option.{none}
-use native.Mathlib.Nat.{add-zero, mod-eq-of-lt}
+use native.Mathlib.Nat.{add-zero}
 use native.Mathlib.Omega.{arith}
 use borrow.Author.Tests.{le-leb, lt-leb, lt-ltb, ne-eqb, eqb-true, leb-true, leb-false, not-false}
-use lib.Bits.{bitAnd, bitOr, and-comm, and-mask, or-zero-l}
-use lib.Dec.{T, eqb, leb, ltb}
+use lib.Dec.{T, eqb, leb}
 use lib.ListN.{length, getD}
 use Rattle.common.specs.Answers.{Answer, refused, success, short}
 use Rattle.common.specs.Refusals.{row, firstRefusal}
 use Rattle.common.proofs.Refusals.{front-passed, row-passed}
-use Rattle.volume.specs.Attributes.{flag, stickyWrite, erasePolarity, writeStatus}
+use Rattle.volume.specs.Attributes.{writeStatus}
 use Rattle.volume.specs.BlockMap.{blocks}
 use Rattle.volume.specs.Header.{opened, openVolume}
 use Rattle.volume.specs.State.{mapOf, unlawful}
 use Rattle.volume.specs.declared.state.State.{State}
-use Rattle.block_service.specs.Access.{countMoved, erasedByte, writtenByte}
+use Rattle.block_service.specs.Access.{countMoved}
 use Rattle.block_service.specs.Blocks.{place, startOf, lengthOf}
 use Rattle.block_service.specs.Erase.{endOfList, goodList, names}
-use Rattle.block_service.specs.Service.{Result, bufferOf, step, perform, effect, refusals, lentRefusals, moveAnswer, eraseBlocks, write}
+use Rattle.block_service.specs.Service.{Result, step, perform, effect, refusals, lentRefusals, moveAnswer, eraseBlocks, write}
 use Rattle.block_service.specs.declared.blocks.Place.the-variants.{At}
+use Rattle.block_service.proofs.Theorems.{written-erased}
 use Rattle.block_service.proofs.service.Erasing.{erase-named, empty-list}
 use Rattle.block_service.proofs.service.Kept.{length-kept}
 use Rattle.block_service.proofs.service.Moving.{write-named, write-in-block}
-use Rattle.block_service.proofs.service.Steps.{allowed-step, begun, effect-answers, lent-none, passed, passed-erase, passed-success, passed-write, refused-changes-nothing}
+use Rattle.block_service.proofs.service.Steps.{allowed-step, allowed-answers, begun, lent-none, passed, passed-erase, passed-success, passed-write, refused-changes-nothing}
 use Rattle.example.specs.Mask.{Masked, masked, unlessRefusedBy, putMask}
-
--- a byte written over an erased one is the byte itself
-written-erased : (a x : ℕ) → x < 256 → writtenByte a (erasedByte a) x ≡ x
-unfolding writtenByte erasedByte
-written-erased a x h = go (flag a stickyWrite) (flag a erasePolarity)
-  where
-    go : (sticky ones : Bool) → cond sticky (cond ones (bitAnd (cond ones 0xFF 0x00) x) (bitOr (cond ones 0xFF 0x00) x)) x ≡ x
-    go true true = and-comm 255 x ∙ and-mask x 8 ∙ mod-eq-of-lt h
-    go true false = or-zero-l x
-    go false true = refl
-    go false false = refl
 
 -- the list of one block names it
 names-one : (block : ℕ) → (block ≡ endOfList → ⊥) → T (names (block ∷ 1 ∷ endOfList ∷ []) block)
@@ -134,10 +123,7 @@ module _ (st : State) (v mask : List ℕ) (block n : ℕ)
   nothing-erased w = go (leb (blocks (mapOf st)) block) refl
     where
       go : (t : Bool) → leb (blocks (mapOf st)) block ≡ t → erased ≡ v
-      go false q =
-          absurd
-          (effect-answers st erased (bufferOf (write block 0 mask)) (write block 0 mask) n
-          (ap (λ (r : Result). r .answer) (allowed-step st erased (write block 0 mask) (write-passes (leb-false _ _ q))) ∙ w))
+      go false q = absurd (allowed-answers st erased (write block 0 mask) (write-passes (leb-false _ _ q)) n w)
       go true q =
           let good = not-false _ (passed-erase st (length v) (block ∷ 1 ∷ endOfList ∷ []) e .last) in
           let terminator : block ≡ endOfList = one-block (blocks (mapOf st)) block good (leb-true _ _ q) in

@@ -3,16 +3,16 @@ use Prim.Native.Nat.{ℕ, _+_, _-_, _≤_, _<_}
 use mathlib.Core.Path.{_≡_, refl, sym, _∙_}
 use mathlib.Core.Bool.{Bool, true, false, cond, _&&_}
 use mathlib.Core.List.{List, _++_}
-use native.Mathlib.Nat.{add-sub-cancel-left}
+use native.Mathlib.Nat.{add-sub-cancel-left, mod-eq-of-lt}
 use native.Mathlib.Omega.{arith}
 use borrow.Author.Tests.{leb-true, ltb-true}
-use lib.Bits.{bitAnd, bitOr}
+use lib.Bits.{bitAnd, bitOr, and-comm, and-mask, or-zero-l}
 use lib.Dec.{leb, ltb}
 use lib.ListN.{length, getD, take, drop, length-drop}
 use lib.Seq.{length-take-le, take-all, getD-take}
 use Rattle.volume.specs.Attributes.{flag, stickyWrite, erasePolarity}
 use Rattle.common.specs.Lists.{edit}
-use Rattle.block_service.specs.Access.{countMoved, writtenByte, changedByte, writeChange, keep, store}
+use Rattle.block_service.specs.Access.{countMoved, writtenByte, erasedByte, changedByte, writeChange, keep, store}
 use Rattle.common.proofs.Edit.{within, edit-part, edit-same, edit-keep}
 
 -- a length of a part that runs from `at` to `at + n`
@@ -81,6 +81,12 @@ pub count-none : (len offset n : ℕ) → len ≤ offset → countMoved len offs
 unfolding countMoved
 count-none len offset n h = omega arith
 
+-- and otherwise the smaller of the data's length and the bytes from the offset to the block's end
+pub count-smaller : (len offset n : ℕ) → offset ≤ len
+    → (n ≤ len - offset → countMoved len offset n ≡ n) × (len - offset ≤ n → countMoved len offset n ≡ len - offset)
+unfolding countMoved
+count-smaller len offset n h = ((λ p. omega arith), λ p. omega arith)
+
 -- the write rule's three cases
 module _ (a old new : ℕ) where
   pub written-plain : flag a stickyWrite ≡ false → writtenByte a old new ≡ new
@@ -94,3 +100,14 @@ module _ (a old new : ℕ) where
   pub written-or : flag a stickyWrite ≡ true → flag a erasePolarity ≡ false → writtenByte a old new ≡ bitOr old new
   unfolding writtenByte
   written-or e p = rw (e, p)
+
+-- a byte written over an erased one is the byte itself
+pub written-erased : (a x : ℕ) → x < 256 → writtenByte a (erasedByte a) x ≡ x
+unfolding writtenByte erasedByte
+written-erased a x h = go (flag a stickyWrite) (flag a erasePolarity)
+  where
+    go : (sticky ones : Bool) → cond sticky (cond ones (bitAnd (cond ones 0xFF 0x00) x) (bitOr (cond ones 0xFF 0x00) x)) x ≡ x
+    go true true = and-comm 255 x ∙ and-mask x 8 ∙ mod-eq-of-lt h
+    go true false = or-zero-l x
+    go false true = refl
+    go false false = refl

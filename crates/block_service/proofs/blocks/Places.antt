@@ -3,8 +3,8 @@
 use Prim.Native.Nat.{ℕ, zero, suc, _+_, _-_, _*_, _/_, _≤_, _<_, min}
 use mathlib.Core.Path.{_≡_, refl, sym, ap, _∙_}
 use mathlib.Core.Bool.{Bool, true, false, cond, _&&_}
-use mathlib.Core.List.{List, [], _∷_}
-use native.Mathlib.Nat.{add-zero, zero-add, mul-le-mul-right, div-lt-iff-lt-mul, add-mul, zero-mul, one-mul}
+use mathlib.Core.List.{List, [], _∷_, _++_}
+use native.Mathlib.Nat.{add-zero, sub-zero, zero-add, mul-le-mul-right, div-lt-iff-lt-mul, add-mul, zero-mul, one-mul}
 use native.Mathlib.Omega.{arith}
 use borrow.Author.Tests.{lt-ltb, le-ltb, le-leb, lt-leb, ltb-true, ltb-false, leb-true, leb-false}
 use lib.Dec.{T, leb, ltb}
@@ -216,6 +216,34 @@ pub place-lost : (m : List ℕ) (b : ℕ) → place m b ≡ Missing → blocks m
 unfolding place missing
 place-lost m b h = leb-true _ _ (sym (place-missing m 0 0 b) ∙ ap missing h)
 
+-- and every block has one
+pub place-there : (m : List ℕ) (b : ℕ) → b < blocks m → (e : ℕ) × (s : ℕ) × (l : ℕ) × (r : ℕ) × (place m b ≡ At e s l r)
+place-there m b h = go (place m b) refl
+  where
+    go : (p : Place) → place m b ≡ p → (e : ℕ) × (s : ℕ) × (l : ℕ) × (r : ℕ) × (place m b ≡ At e s l r)
+    go (At e s l r) q = (e, s, l, r, q)
+    go Missing q = absurd (omega (arith, place-lost m b q))
+
+-- entries after the one that holds the block count for nothing
+settled : (m rest : List ℕ) (e s b : ℕ) → b < blocks m → placeFrom (m ++ rest) e s b ≡ placeFrom m e s b
+unfolding placeFrom blocks
+settled [] rest e s b h = absurd (omega arith)
+settled (c ∷ []) rest e s b h = absurd (omega arith)
+settled (c ∷ l ∷ m) rest e s b h = go (ltb b c) refl (settled m rest (e + 1) (s + c * l) (b - c))
+  where
+    go : (t : Bool) → ltb b c ≡ t
+        → (b - c < blocks m → placeFrom (m ++ rest) (e + 1) (s + c * l) (b - c) ≡ placeFrom m (e + 1) (s + c * l) (b - c))
+        → cond t (At e (s + b * l) l (c - b)) (placeFrom (m ++ rest) (e + 1) (s + c * l) (b - c))
+        ≡ cond t (At e (s + b * l) l (c - b)) (placeFrom m (e + 1) (s + c * l) (b - c))
+    go true q ih = refl
+    go false q ih =
+        let p : c ≤ b = ltb-false _ _ q in
+        ih (omega arith)
+
+pub entry-settles : (m rest : List ℕ) (b : ℕ) → b < blocks m → place (m ++ rest) b ≡ place m b
+unfolding place
+entry-settles m rest b h = settled m rest 0 0 b h
+
 -- where it lies
 pub found-start : (m : List ℕ) (b e s l r : ℕ) → place m b ≡ At e s l r → s ≡ firstByte m b
 unfolding place startOf
@@ -225,6 +253,15 @@ pub found-end : (m : List ℕ) (b e s l r : ℕ) → place m b ≡ At e s l r �
 unfolding place startOf lengthOf
 found-end m b e s l r h =
     sym (ap (λ (p : Place). startOf p + lengthOf p) h) ∙ place-end m 0 0 b (place-found m b e s l r h) ∙ zero-add (firstByte m (b + 1))
+
+-- the next block starts where it ends
+pub next-block : (m : List ℕ) (b e s l r e' s' l' r' : ℕ) → place m b ≡ At e s l r → place m (b + 1) ≡ At e' s' l' r' → s' ≡ s + l
+next-block m b e s l r e' s' l' r' h k = found-start m (b + 1) e' s' l' r' k ∙ sym (found-end m b e s l r h)
+
+-- block 0 starts at byte 0 and is the first of the first entry, where that has blocks
+pub first-block : (c l : ℕ) (rest : List ℕ) → 0 < c → place (c ∷ l ∷ rest) 0 ≡ At 0 0 l c
+unfolding place placeFrom
+first-block c l rest h = rw (lt-ltb 0 c h, zero-mul l, add-zero 0, sub-zero c)
 
 -- it lies within the map's total
 pub found-within : (m : List ℕ) (b e s l r : ℕ) → place m b ≡ At e s l r → s + l ≤ bytes m

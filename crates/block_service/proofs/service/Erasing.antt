@@ -189,12 +189,21 @@ pub words-after-end : (st : State) (v pairs a b : List ℕ) → length pairs % 2
     → step st v (eraseBlocks (pairs ++ (endOfList ∷ a))) ≡ step st v (eraseBlocks (pairs ++ (endOfList ∷ b)))
 words-after-end st v pairs a b e = named-alike st v _ _ (after-good (blocks (mapOf st)) pairs a b e) (after-names pairs a b e)
 
+-- a good list succeeds, of a lawful state and a volume lent whole, with writes enabled: each byte of the blocks that it names is erased
+pub erase-allowed : (st : State) (v list : List ℕ) → unlawful st ≡ false → st .length ≤ length v → flag (st .attributes) writeStatus ≡ true
+    → goodList (blocks (mapOf st)) list ≡ true
+    → step st v (eraseBlocks list)
+    ≡ result (success []) st (edit (λ i old. changedByte (st .attributes) (eraseChange (mapOf st) list i) old) 0 v) []
+unfolding refusals bufferOf perform effect
+erase-allowed st v list ok long on good =
+    sym (allowed-step st v (eraseBlocks list) (lent-none st _ writeStatus _ (lent-passes st _ writeStatus ok long on) (ap not good)))
+
 -- the empty list succeeds and changes nothing, whatever follows its terminator
 pub empty-list : (st : State) (v rest : List ℕ) → unlawful st ≡ false → st .length ≤ length v → flag (st .attributes) writeStatus ≡ true
     → step st v (eraseBlocks (endOfList ∷ rest)) ≡ result (success []) st v []
-unfolding refusals bufferOf perform effect changedByte eraseChange
+unfolding changedByte eraseChange
 empty-list st v rest ok long on =
-    sym (allowed-step st v (eraseBlocks (endOfList ∷ rest)) (lent-none st _ writeStatus _ (lent-passes st _ writeStatus ok long on) (ap not (end-good (blocks (mapOf st)) rest))))
+    erase-allowed st v (endOfList ∷ rest) ok long on (end-good (blocks (mapOf st)) rest)
     ∙ ap (λ (l : List ℕ). result (success []) st l [])
     (edit-keep (λ i old. changedByte (st .attributes) (eraseChange (mapOf st) (endOfList ∷ rest) i) old) 0 v
     (λ i old h. rw (end-names rest (blockAt (mapOf st) (0 + i)))))

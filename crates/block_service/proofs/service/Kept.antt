@@ -7,7 +7,6 @@ use mathlib.Core.Path.{_≡_, refl, sym, ap, _∙_}
 use native.Mathlib.Omega.{arith}
 use borrow.Author.Tests.{leb-false}
 use lib.ListN.{length, getD}
-use Rattle.common.specs.Answers.{refused}
 use Rattle.common.specs.Refusals.{row, firstRefusal, any}
 use Rattle.common.proofs.Edit.{length-edit}
 use Rattle.common.proofs.Refusals.{row-passed}
@@ -26,7 +25,7 @@ use Rattle.block_service.specs.declared.blocks.Place.the-variants.{At, M
 use Rattle.block_service.proofs.blocks.Places.{found-within, place-lost, past-every-block}
 use Rattle.block_service.proofs.service.Erasing.{erase-other}
 use Rattle.block_service.proofs.service.Moving.{write-other}
-use Rattle.block_service.proofs.service.Steps.{refused-step, allowed-step, effect-answers, passed-write, passed-erase}
+use Rattle.block_service.proofs.service.Steps.{refused-step, allowed-step, allowed-answers, passed-write, passed-erase}
 use Rattle.block_service.proofs.settings.Rules.{fixed-same}
 
 -- ---- what no call changes
@@ -74,10 +73,7 @@ follows-state st v w c e = rw e (go (decide st (length w) c))
     go (copyOut at n a) = (refl, refl)
     go (change f a) = (refl, refl)
 
--- a call that passed its table is not refused
-passed-answers : (st : State) (v : List ℕ) (c : Call) → firstRefusal (refusals st (length v) c) ≡ none → (n : ℕ) → step st v c .answer ≡ refused n → ⊥
-passed-answers st v c e n q = effect-answers st v (bufferOf c) c n (ap (λ (r : Result). r .answer) (allowed-step st v c e) ∙ q)
-
+-- a call that passed its table changes no byte past the state's length
 allowed-past : (st : State) (v : List ℕ) (c : Call) (i : ℕ) → st .length ≤ i → firstRefusal (refusals st (length v) c) ≡ none
     → getD (step st v c .volume) i 0 ≡ getD v i 0
 unfolding perform effect countMoved
@@ -93,7 +89,7 @@ allowed-past st v (write b o new) i h e =
     go : (x : Place) → place (mapOf st) b ≡ x → bytes (mapOf st) ≡ st .length → b < blocks (mapOf st)
         → getD (step st v (write b o new) .volume) i 0 ≡ getD v i 0
     go (At e' s l r) at t k =
-        write-other st v b o new (passed-answers st v (write b o new) e) e' s l r at i
+        write-other st v b o new (allowed-answers st v (write b o new) e) e' s l r at i
         (λ p q. let w = found-within (mapOf st) b e' s l r at in omega arith)
     go Missing at t k = absurd (omega (arith, place-lost (mapOf st) b at))
 allowed-past st v (eraseBlocks list) i h e =

@@ -1,25 +1,27 @@
 -- What a write leaves in each byte of the volume, and a read in the buffer.
 use Prim.Native.Nat.{ℕ, _+_, _-_, _≤_, _<_}
 use mathlib.Core.Bool.{Bool, true, false, cond, _&&_}
-use mathlib.Core.List.{List, _++_}
+use mathlib.Core.List.{List, [], _++_}
 use mathlib.Core.Path.{_≡_, refl, sym, ap, _∙_}
 use native.Mathlib.Nat.{zero-add}
 use native.Mathlib.Omega.{arith}
-use borrow.Author.Tests.{lt-ltb, le-leb, ltb-true, ltb-false, leb-true}
+use borrow.Author.Tests.{lt-ltb, le-leb, lt-leb, ltb-true, ltb-false, leb-true}
 use lib.Dec.{T, leb, ltb}
 use lib.ListN.{length, getD, take, drop, List·getD-append, length-drop}
 use lib.Seq.{getD-take, getD-drop, length-take-le, getD-append-add}
 use Rattle.common.specs.Answers.{refused}
 use Rattle.common.specs.Lists.{edit}
 use Rattle.common.proofs.Edit.{getD-edit, getD-kept}
-use Rattle.volume.specs.State.{mapOf}
+use Rattle.volume.specs.Attributes.{flag, readStatus, writeStatus}
+use Rattle.volume.specs.BlockMap.{blocks}
+use Rattle.volume.specs.State.{mapOf, unlawful}
 use Rattle.volume.specs.declared.state.State.{State}
 use Rattle.block_service.specs.Access.{countMoved, writtenByte, keep, store, writeChange, changedByte}
 use Rattle.block_service.specs.Blocks.{place, startOf, lengthOf, inBlock}
-use Rattle.block_service.specs.Service.{moveAnswer, read, write, effect, Result, perform, bufferOf, step}
+use Rattle.block_service.specs.Service.{moveAnswer, read, write, refusals, effect, Result, result, perform, bufferOf, step}
 use Rattle.block_service.specs.declared.blocks.Place.the-variants.{At}
-use Rattle.block_service.proofs.blocks.Places.{inBlock-of-bounds, found-start, found-end, found-within, place-found}
-use Rattle.block_service.proofs.service.Steps.{allowed-step, passed, passed-read, passed-write}
+use Rattle.block_service.proofs.blocks.Places.{inBlock-of-bounds, found-start, found-end, found-within, place-found, place-there}
+use Rattle.block_service.proofs.service.Steps.{allowed-step, allowed-answers, lent-none, lent-passes, passed, passed-read, passed-write, read-step, write-step}
 
 -- after a write that was not refused, in the block at s of length l
 module _ (st : State) (v : List ℕ) (b o : ℕ) (new : List ℕ) (h : (n : ℕ) → step st v (write b o new) .answer ≡ refused n → ⊥)
@@ -125,3 +127,33 @@ module _ (st : State) (v : List ℕ) (b o : ℕ) (buffer : List ℕ) (h : (n : �
       ∙ getD-append-add (take n (drop (s + o) v)) (drop n buffer) (j - n) 0
       ∙ getD-drop n buffer (j - n) 0
       ∙ ap (λ (i : ℕ). getD buffer i 0) y)
+
+-- ---- what is done where no row refuses: a lawful state, a volume lent whole, the status on, and a block that is there
+module _ (st : State) (v : List ℕ) (ok : unlawful st ≡ false) (long : st .length ≤ length v) where
+  pub read-allowed : flag (st .attributes) readStatus ≡ true → (b o : ℕ) (buffer : List ℕ) → b < blocks (mapOf st)
+      → ((n : ℕ) → step st v (read b o buffer) .answer ≡ refused n → ⊥)
+      × ((e : ℕ) × (s : ℕ) × (l : ℕ) × (r : ℕ) × (place (mapOf st) b ≡ At e s l r)
+      × (step st v (read b o buffer)
+      ≡ result (moveAnswer (countMoved l o (length buffer)) (length buffer)) st v
+      (take (countMoved l o (length buffer)) (drop (s + o) v) ++ drop (countMoved l o (length buffer)) buffer)))
+  unfolding refusals
+  read-allowed on b o buffer h =
+      let pass = lent-none st (length v) readStatus _ (lent-passes st _ readStatus ok long on) (lt-leb _ _ h) in
+      let p = place-there (mapOf st) b h in (
+        allowed-answers st v (read b o buffer) pass,
+        (p .0, p .1, p .2, p .3, p .4, sym (read-step st v b o buffer (p .0) (p .1) (p .2) (p .3) _ _ _ pass (p .4) refl refl refl)),
+      )
+
+  pub write-allowed : flag (st .attributes) writeStatus ≡ true → (b o : ℕ) (new : List ℕ) → b < blocks (mapOf st)
+      → ((n : ℕ) → step st v (write b o new) .answer ≡ refused n → ⊥)
+      × ((e : ℕ) × (s : ℕ) × (l : ℕ) × (r : ℕ) × (place (mapOf st) b ≡ At e s l r)
+      × (step st v (write b o new)
+      ≡ result (moveAnswer (countMoved l o (length new)) (length new)) st
+      (edit (λ i old. changedByte (st .attributes) (writeChange (s + o) (countMoved l o (length new)) new i) old) 0 v) []))
+  unfolding refusals
+  write-allowed on b o new h =
+      let pass = lent-none st (length v) writeStatus _ (lent-passes st _ writeStatus ok long on) (lt-leb _ _ h) in
+      let p = place-there (mapOf st) b h in (
+        allowed-answers st v (write b o new) pass,
+        (p .0, p .1, p .2, p .3, p .4, sym (write-step st v b o new (p .0) (p .1) (p .2) (p .3) _ _ _ pass (p .4) refl refl refl)),
+      )

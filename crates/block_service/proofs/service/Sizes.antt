@@ -2,26 +2,26 @@
 use Prim.Native.Nat.{ℕ, _+_, _-_, _<_, _*_}
 use mathlib.Core.Bool.{false}
 use mathlib.Core.List.{List, [], _∷_}
-use mathlib.Core.Path.{_≡_, refl, ap, _∙_}
+use mathlib.Core.Path.{_≡_, refl, sym, ap, _∙_}
 use native.Mathlib.Omega.{arith}
-use borrow.Author.Tests.{leb-false}
+use borrow.Author.Tests.{leb-false, lt-leb}
 use lib.Dec.{T, leb}
 use lib.ListN.{length}
 use Rattle.common.specs.Answers.{success}
 use Rattle.common.specs.Refusals.{row}
-use Rattle.common.proofs.Refusals.{row-passed}
+use Rattle.common.proofs.Refusals.{row-passed, row-passes, no-row}
 use Rattle.volume.specs.BlockMap.{blocks}
 use Rattle.volume.specs.State.{mapOf, unlawful}
 use Rattle.volume.specs.declared.state.State.{State}
 use Rattle.volume.proofs.state.Lawful.{lawful}
 use Rattle.block_service.specs.Blocks.{place, lengthOf, inBlock, blockAt, leftOf}
 use Rattle.block_service.specs.Service.{getBlockSize, refusals, effect, Result}
-use Rattle.block_service.specs.Service.{perform, step}
+use Rattle.block_service.specs.Service.{result, perform, step}
 use Rattle.block_service.specs.declared.blocks.Place.{Place}
 use Rattle.block_service.specs.declared.blocks.Place.the-variants.{At, Missing}
-use Rattle.block_service.proofs.blocks.Places.{in-some-block, place-lost, in-one-block}
+use Rattle.block_service.proofs.blocks.Places.{in-some-block, place-lost, place-there, in-one-block}
 use Rattle.block_service.proofs.blocks.Runs.{run-places, run-ends}
-use Rattle.block_service.proofs.service.Steps.{allowed-step, passed-success}
+use Rattle.block_service.proofs.service.Steps.{allowed-step, passed-success, size-step}
 
 -- every byte below a lawful state's length lies in exactly one block
 pub one-block : (st : State) → unlawful st ≡ false → (i : ℕ) → i < st .length
@@ -48,6 +48,15 @@ module _ (st : State) (v : List ℕ) (b l r : ℕ) (h : step st v (getBlockSize 
           let c : r' ≡ r = cc in
           (e, s, at ∙ rw (a, c))
       go Missing at k q = absurd (omega (arith, place-lost (mapOf st) b at))
+
+-- and it answers for every block that is there, in a lawful state
+pub size-answered : (st : State) (v : List ℕ) (b : ℕ) → unlawful st ≡ false → b < blocks (mapOf st)
+    → (e : ℕ) × (s : ℕ) × (l : ℕ) × (r : ℕ) × (place (mapOf st) b ≡ At e s l r) × (step st v (getBlockSize b) ≡ result (success (l ∷ r ∷ [])) st v [])
+unfolding refusals
+size-answered st v b ok h =
+    let pass = row-passes _ _ _ _ ok (row-passes _ _ _ _ (lt-leb _ _ h) no-row) in
+    let p = place-there (mapOf st) b h in
+    (p .0, p .1, p .2, p .3, p .4, sym (size-step st v b (p .0) (p .1) (p .2) (p .3) pass (p .4)))
 
 -- the r blocks from b on lie one after the other in b's entry, all of length l; the block after them, if there is one, is in a later entry
 pub run-in-entry : (m : List ℕ) (b e s l r : ℕ) → place m b ≡ At e s l r

@@ -144,7 +144,7 @@ move-answers k n m = go (eqb k n)
     go false e = let z : _≡_ {A = ℕ} 0 1 = cc in omega arith
 
 -- a call's effect refuses nothing
-pub effect-answers : (st : State) (v buffer : List ℕ) (c : Call) (n : ℕ) → perform st v buffer (effect st c) .answer ≡ refused n → ⊥
+effect-answers : (st : State) (v buffer : List ℕ) (c : Call) (n : ℕ) → perform st v buffer (effect st c) .answer ≡ refused n → ⊥
 unfolding perform effect
 effect-answers st v buffer getAttributes n e = let z : _≡_ {A = ℕ} 0 1 = cc in omega arith
 effect-answers st v buffer (setAttributes new) n e = let z : _≡_ {A = ℕ} 0 1 = cc in omega arith
@@ -154,18 +154,29 @@ effect-answers st v buffer (read b o data') n e = move-answers _ _ n e
 effect-answers st v buffer (write b o new) n e = move-answers _ _ n e
 effect-answers st v buffer (eraseBlocks list) n e = let z : _≡_ {A = ℕ} 0 1 = cc in omega arith
 
+-- so a call whose table passes is not refused
+pub allowed-answers : (st : State) (v : List ℕ) (c : Call) → firstRefusal (refusals st (length v) c) ≡ none
+    → (n : ℕ) → step st v c .answer ≡ refused n → ⊥
+allowed-answers st v c e n h = effect-answers st v (bufferOf c) c n (ap (λ (r : Result). r .answer) (allowed-step st v c e) ∙ h)
+
+-- and a call is refused with a number exactly where that is the number of the first row that applies
+pub refused-exactly : (st : State) (v : List ℕ) (c : Call) (n : ℕ)
+    → (step st v c .answer ≡ refused n → firstRefusal (refusals st (length v) c) ≡ some n)
+    × (firstRefusal (refusals st (length v) c) ≡ some n → step st v c .answer ≡ refused n)
+refused-exactly st v c n =
+    ((λ h. go h (firstRefusal (refusals st (length v) c)) refl), λ e. sym (ap (λ (r : Result). r .answer) (refused-step st v c n e)))
+  where
+    go : step st v c .answer ≡ refused n → (o : Option ℕ) → firstRefusal (refusals st (length v) c) ≡ o → o ≡ some n
+    go h none e = absurd (allowed-answers st v c e n h)
+    go h (some m) e =
+        let q : refused m ≡ refused n = ap (λ (r : Result). r .answer) (refused-step st v c m e) ∙ h in
+        let k : m ≡ n = cc in
+        ap (λ (x : ℕ). some x) k
+
 -- a refused call changes nothing: the state, the volume and the buffer are as before
 pub refused-changes-nothing : (st : State) (v : List ℕ) (c : Call) (n : ℕ) → step st v c .answer ≡ refused n
     → step st v c ≡ result (refused n) st v (bufferOf c)
-refused-changes-nothing st v c n h = go (firstRefusal (refusals st (length v) c)) refl
-  where
-    go : (o : Option ℕ) → firstRefusal (refusals st (length v) c) ≡ o → step st v c ≡ result (refused n) st v (bufferOf c)
-    go none e = absurd (effect-answers st v (bufferOf c) c n (ap (λ (r : Result). r .answer) (allowed-step st v c e) ∙ h))
-    go (some m) e =
-        let p = refused-step st v c m e in
-        let q : refused m ≡ refused n = ap (λ (r : Result). r .answer) p ∙ h in
-        let k : m ≡ n = cc in
-        sym p ∙ ap (λ (x : ℕ). result (refused x) st v (bufferOf c)) k
+refused-changes-nothing st v c n h = sym (refused-step st v c n (refused-exactly st v c n .0 h))
 
 -- a call that is not refused passed its whole table
 pub passed : (st : State) (v : List ℕ) (c : Call) → ((n : ℕ) → step st v c .answer ≡ refused n → ⊥)
@@ -268,3 +279,16 @@ pub order-2-size : (st : State) (v : List ℕ) (b : ℕ) → unlawful st ≡ fal
     → step st v (getBlockSize b) ≡ result (refused 2) st v []
 unfolding refusals bufferOf
 order-2-size st v b ok h = sym (refused-step st v (getBlockSize b) 2 (row-passes _ _ _ _ ok (row-applies _ _ _ (le-leb _ _ h))))
+
+-- ---- the answers of the calls that no row refuses and that are not lent the volume
+
+-- the settings, of a lawful state
+pub settings-read : (st : State) (v : List ℕ) → unlawful st ≡ false → step st v getAttributes ≡ result (success (st .attributes ∷ [])) st v []
+unfolding refusals bufferOf perform effect
+settings-read st v ok = sym (allowed-step st v getAttributes (row-passes _ _ _ _ ok no-row))
+
+-- the base address, of one that is memory mapped
+pub address-read : (st : State) (v : List ℕ) → unlawful st ≡ false → flag (st .attributes) memoryMapped ≡ true
+    → step st v getPhysicalAddress ≡ result (success (st .base ∷ [])) st v []
+unfolding refusals bufferOf perform effect
+address-read st v ok on = sym (allowed-step st v getPhysicalAddress (row-passes _ _ _ _ ok (row-passes _ _ _ _ (ap not on) no-row)))
