@@ -1,6 +1,6 @@
 -- The theorems of this crate, in document 01's order ("Sections"): 01's words, the statement over the definitions of specs/ that the
 -- contracts cite, and where it is proved.
-use Prim.Native.Nat.{ℕ, suc, _+_, _-_, _≤_, _<_}
+use Prim.Native.Nat.{ℕ, suc, _+_, _-_, _%_, _≤_, _<_}
 use mathlib.Core.Path.{_≡_, refl, sym}
 use mathlib.Core.Bool.{true, false}
 use mathlib.Core.List.{List, [], _∷_, _++_}
@@ -9,7 +9,7 @@ use mathlib.Core.Option.{none, some}
 use lib.ListN.{length, getD, take}
 use Rattle.common.specs.Answers.{refused, success, numberOf}
 use Rattle.sections.specs.Types.{typeIs, typeInfo}
-use Rattle.sections.specs.Header.{sizeAt, typeAt, wrongContents, sectionAt, headAt, Lies}
+use Rattle.sections.specs.Header.{sizeAt, typeAt, unpackedLength, compressionKind, dataOffset, attributes, sectionAt, headAt}
 use Rattle.sections.specs.Walk.{Trace, done, fault, section, andThen, aligned, zeros, part, afterPadding, walk, streamLimit, streamWalk}
 use Rattle.sections.specs.Search.{sections, firstFault, searchOf, WellFormed, countOf}
 use Rattle.sections.specs.Append.{appendOf, bufferAfter}
@@ -18,6 +18,7 @@ use Rattle.sections.specs.declared.types.Class.the-variants.{PlainLeaf}
 use Rattle.sections.specs.declared.header.Head.the-variants.{Fault, Closed, Open}
 use Rattle.sections.proofs.types.Rows as rows
 use Rattle.sections.proofs.header.Tests as tests
+use Rattle.sections.proofs.header.Cases as cases
 use Rattle.sections.proofs.header.Extent as extent
 use Rattle.sections.proofs.walk.Padding as padding
 use Rattle.sections.proofs.walk.Starts as starts
@@ -42,6 +43,29 @@ types-unknown = rows.unlisted
 -- ---- the header at a start
 
 module _ (s : List ℕ) (at : ℕ) where
+  -- a section that passes 201 to 203, by its type
+  module _ (four : 4 ≤ length s - at) (least : typeInfo (typeAt s at) .least ≤ sizeAt s at) (fits : sizeAt s at ≤ length s - at) where
+    -- "a section is a 24-bit size (header included), an 8-bit type, then the rest": a type that is no holder is not opened
+    pub leaf-closed : (typeAt s at ≡ 0x01 → ⊥) → (typeAt s at ≡ 0x02 → ⊥) → headAt s at ≡ Closed (typeAt s at) (at + 4) (at + sizeAt s at)
+    leaf-closed = cases.leaf-closed s at four least fits
+
+    -- "compression: .. contents from byte 9; contents are searched only for kind 0"
+    pub compression-open : typeAt s at ≡ 0x01 → compressionKind s at ≡ 0 → unpackedLength s at ≡ sizeAt s at - 9
+        → headAt s at ≡ Open 0x01 (at + 4) (at + 9) (at + sizeAt s at)
+    compression-open = cases.compression-open s at four least fits
+
+    pub compression-closed : typeAt s at ≡ 0x01 → (compressionKind s at ≡ 0 → ⊥) → headAt s at ≡ Closed 0x01 (at + 4) (at + sizeAt s at)
+    compression-closed = cases.compression-closed s at four least fits
+
+    -- "GUID-defined: .. contents from the offset; searched only if attribute bit 0 is clear"
+    pub guid-open : typeAt s at ≡ 0x02 → 24 ≤ dataOffset s at → dataOffset s at ≤ sizeAt s at → attributes s at % 2 ≡ 0
+        → headAt s at ≡ Open 0x02 (at + 4) (at + dataOffset s at) (at + sizeAt s at)
+    guid-open = cases.guid-open s at four least fits
+
+    pub guid-closed : typeAt s at ≡ 0x02 → 24 ≤ dataOffset s at → dataOffset s at ≤ sizeAt s at → attributes s at % 2 ≡ 1
+        → headAt s at ≡ Closed 0x02 (at + 4) (at + sizeAt s at)
+    guid-closed = cases.guid-closed s at four least fits
+
   -- "201 1 to 3 bytes left at a start"
   pub header-201 : length s - at < 4 → headAt s at ≡ Fault 201
   header-201 few = sym (tests.head-201 s at few)
@@ -54,13 +78,31 @@ module _ (s : List ℕ) (at : ℕ) where
   pub header-203 : 4 ≤ length s - at → typeInfo (typeAt s at) .least ≤ sizeAt s at → length s - at < sizeAt s at → headAt s at ≡ Fault 203
   header-203 four least past = sym (tests.head-203 s at refl refl refl four least past)
 
-  -- "204 kind 0 with unpacked length not size minus 9, or data offset below 24 or above size", of a holder past 201 to 203
-  pub header-204 : Lies s at (typeAt s at) (sizeAt s at) → wrongContents s at ≡ true → headAt s at ≡ Fault 204
-  header-204 lies wrong = sym (tests.holder-204 lies wrong)
+  -- "204 kind 0 with unpacked length not size minus 9, or data offset below 24 or above size"
+  pub header-204 : 4 ≤ length s - at → typeInfo (typeAt s at) .least ≤ sizeAt s at → sizeAt s at ≤ length s - at
+      → ((typeAt s at ≡ 0x01) × (compressionKind s at ≡ 0) × (unpackedLength s at ≡ sizeAt s at - 9 → ⊥))
+      ⊎ ((typeAt s at ≡ 0x02) × ((dataOffset s at < 24) ⊎ (sizeAt s at < dataOffset s at)))
+      → headAt s at ≡ Fault 204
+  header-204 = cases.head-204 s at
 
-  -- no other fault stands at a start: else the section is there, and it passed each of these tests
-  pub header-cases : ((n : ℕ) × (headAt s at ≡ Fault n)) ⊎ ((headAt s at ≡ sectionAt s at) × extent.Whole s at)
-  header-cases = extent.head-cases s at
+  -- "given exactly when", "first that applies": a fault has one of these four numbers, and its test is the first that applies
+  pub header-faults : (n : ℕ) → (headAt s at ≡ Fault n)
+      ↔ ((n ≡ 201) × (length s - at < 4))
+      ⊎ ((n ≡ 202) × (4 ≤ length s - at) × (sizeAt s at < typeInfo (typeAt s at) .least))
+      ⊎ ((n ≡ 203) × (4 ≤ length s - at) × (typeInfo (typeAt s at) .least ≤ sizeAt s at) × (length s - at < sizeAt s at))
+      ⊎ ((n ≡ 204) × (4 ≤ length s - at) × (typeInfo (typeAt s at) .least ≤ sizeAt s at) × (sizeAt s at ≤ length s - at) × cases.Wrong s at)
+  header-faults = cases.faults-exactly s at
+
+  -- so at a start stands the first fault that applies, or the section, which passed each of these tests
+  pub header-cases : ((n : ℕ) × (headAt s at ≡ Fault n) × cases.FirstFault s at n) ⊎ ((headAt s at ≡ sectionAt s at) × cases.Whole s at)
+  header-cases = cases.head-cases s at
+
+  -- and where none of the four tests applies, the section is there
+  pub header-accepted : 4 ≤ length s - at → typeInfo (typeAt s at) .least ≤ sizeAt s at → sizeAt s at ≤ length s - at
+      → (typeAt s at ≡ 0x01 → compressionKind s at ≡ 0 → unpackedLength s at ≡ sizeAt s at - 9)
+      → (typeAt s at ≡ 0x02 → (24 ≤ dataOffset s at) × (dataOffset s at ≤ sizeAt s at))
+      → headAt s at ≡ sectionAt s at
+  header-accepted = cases.accepted s at
 
   -- a section shows what follows its first 4 bytes, and lies inside its stream; contents that are searched lie inside their section
   pub closed-within : {t first e : ℕ} → headAt s at ≡ Closed t first e → (at + typeInfo t .least ≤ e) × (first ≡ at + 4) × (first ≤ e) × (e ≤ length s)

@@ -19,8 +19,9 @@ use Rattle.sections.specs.Append.{leafSize, sizeLimit, usedAfter, leaf, 
 use Rattle.sections.specs.declared.header.Head.{Head}
 use Rattle.sections.specs.declared.header.Head.the-variants.{Fault, Closed, Open}
 use Rattle.sections.proofs.append.Stores.{length-added}
+use Rattle.sections.proofs.header.Cases.{Whole}
 use Rattle.sections.proofs.header.Decided.{head-same}
-use Rattle.sections.proofs.header.Extent.{Whole, is-closed, is-open, closed-within, open-within}
+use Rattle.sections.proofs.header.Extent.{is-closed, is-open, closed-within, open-within}
 use Rattle.sections.proofs.header.Tests.{head-leaf}
 use Rattle.sections.proofs.walk.Padding.{zeros-same, zeros-past, padding-zero, padding-none}
 use Rattle.sections.proofs.walk.Starts.{walkFrom, walk-from-start, walk-end, walk-fault, walk-closed, walk-205, walk-open}
@@ -42,10 +43,10 @@ module _ (s : List ℕ) (sectionType : ℕ) (body : List ℕ) where
   abbrev pub after : List ℕ
   after = s ++ added (length s) sectionType body
 
-  abbrev pub start : ℕ
+  abbrev start : ℕ
   start = aligned (length s)
 
-  abbrev pub finish : ℕ
+  abbrev finish : ℕ
   finish = usedAfter (length s) (length body)
 
   -- the stream with its padding, before the leaf

@@ -65,13 +65,13 @@ shown-14 (some x) p = let z : _≡_ {A = ℕ} 0 1 = cc in absurd (omega arith)
 module _ (buffer : List ℕ) (used sectionType : ℕ) (body : List ℕ) {u : ℕ}
     (answer : appendOf (length buffer) used sectionType (length body) ≡ success (u ∷ [])) (well : WellFormed (take used buffer)) where
   -- the used bytes before and after
-  abbrev pub streamBefore : List ℕ
+  abbrev streamBefore : List ℕ
   streamBefore = take used buffer
 
-  abbrev pub streamAfter : List ℕ
+  abbrev streamAfter : List ℕ
   streamAfter = take u (bufferAfter buffer used sectionType body)
 
-  abbrev pub newSection : Section
+  abbrev newSection : Section
   newSection = record { sectionType = sectionType; first = aligned used + 4; end = u }
 
   took : Accepted (length buffer) used sectionType (length body) u

@@ -30,7 +30,7 @@ unfolding headAt headFaults firstRefusal
 head-201 s at h = rw (lt-ltb (length s - at) 4 h)
 
 -- past 203 what is left is 204 and the section
-head-past-203 : (s : List ℕ) (at : ℕ) → 4 ≤ length s - at → typeInfo (typeAt s at) .least ≤ sizeAt s at → sizeAt s at ≤ length s - at
+pub head-past-203 : (s : List ℕ) (at : ℕ) → 4 ≤ length s - at → typeInfo (typeAt s at) .least ≤ sizeAt s at → sizeAt s at ≤ length s - at
     → (w : Bool) → (isHolder (typeInfo (typeAt s at) .class) && wrongContents s at) ≡ w → cond w (Fault 204) (sectionAt s at) ≡ headAt s at
 unfolding headAt headFaults firstRefusal
 head-past-203 s at a b h true e =
@@ -87,7 +87,7 @@ module _ {s : List ℕ} {at sectionType size : ℕ} (l : Lies s at sectionType s
       let n = l .sized in
       head-past-203 s at (omega arith) b (omega arith) w (rw h e)
 
-  pub holder-204 : wrongContents s at ≡ true → Fault 204 ≡ headAt s at
+  holder-204 : wrongContents s at ≡ true → Fault 204 ≡ headAt s at
   holder-204 e = holder-head true e
 
   module _ {first end : ℕ} (fe : first ≡ firstAt at) (ee : end ≡ at + size) where

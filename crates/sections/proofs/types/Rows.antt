@@ -75,7 +75,7 @@ abbrev every : (TypeInfo → Bool) → List TypeRow → Bool
 every P [] = P (plainLeaf Unknown)
 every P (r ∷ rows) = P (r .info) && every P rows
 
-both : (a b : Bool) → (a && b) ≡ true → (a ≡ true) × (b ≡ true)
+pub both : (a b : Bool) → (a && b) ≡ true → (a ≡ true) × (b ≡ true)
 both true b p = (refl, p)
 both false b p = let z : _≡_ {A = ℕ} 0 1 = cc in absurd (omega arith)
 
