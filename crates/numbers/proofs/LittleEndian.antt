@@ -133,3 +133,11 @@ stored-behind [] l at i h = refl
 stored-behind (x ∷ v) l at i h =
     let later : at < i = omega arith in
     stored-behind v (set l at x) (suc at) i (omega arith) ∙ getD-set-other l at i x 0 (ne-of-gt later)
+
+-- four bytes as one number: modulo 2 ^ 24 it is the number of the first three, by 2 ^ 24 the fourth
+pub word-parts : (s : List ℕ) (at : ℕ) {a b c d word : ℕ} → a ≡ getD s at 0 → b ≡ getD s (at + 1) 0 → c ≡ getD s (at + 2) 0 → d ≡ getD s (at + 3) 0
+    → a < 256 → b < 256 → c < 256 → d < 256 → word ≡ a + 256 * b + 65536 * c + 16777216 * d → (word % 2 ^ 24 ≡ le 3 s at) × (word / 2 ^ 24 ≡ getD s (at + 3) 0)
+unfolding le
+word-parts s at ea eb ec ed ha hb hc hd w =
+    let third : getD s (at + 1 + 1) 0 ≡ getD s (at + 2) 0 = ap (λ (i : ℕ). getD s i 0) (omega arith) in
+    (omega arith, omega arith)

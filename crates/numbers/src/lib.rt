@@ -3,8 +3,8 @@
 // No public function here has a `requires`: a byte past the end reads as 0, and a byte that would lie past
 // the end is not stored. The crates above rest on these contracts alone.
 ghost use mathlib.Core.Path.{_≡_};
-ghost use Prim.Native.Nat.{_<_, _≤_, _^_};
-ghost use lib.ListN.{getD};
+ghost use Prim.Native.Nat.{_+_, _/_, _%_, _<_, _≤_, _^_};
+ghost use lib.ListN.{length, getD};
 ghost use lib.Seq.{sets};
 ghost use Rattle.numbers.specs.LittleEndian.{le, leBytes};
 
@@ -27,6 +27,35 @@ pub fn u24_at(s: &[u8], at: usize) -> u32
     ensures { λ r. ⌜ (r ≡ le 3 (now (s .entry)) at) × (r < 2 ^ 24) ⌝ }
 {
     number_at(s, at, 3) as u32
+}
+
+// A 24-bit number, and the byte after it.
+pub struct U24Byte {
+    pub number: u32,
+    pub byte: u8,
+}
+
+// 2 ^ 24.
+const U24_END: u32 = 16_777_216;
+
+// The 24-bit number at a place and the byte after it, as a section's size and type stand. Where the 4 bytes are there it is one load.
+pub fn u24_byte_at(s: &[u8], at: usize) -> U24Byte
+    ensures { λ r. ⌜ (r .number ≡ le 3 (now (s .entry)) at) × (r .byte ≡ getD (now (s .entry)) (at + 3) 0) × (r .number < 2 ^ 24) ⌝ }
+{
+    if s.len() <= at {
+        return U24Byte { number: 0, byte: 0 };
+    }
+    if s.len() - at < 4 {
+        return U24Byte {
+            number: u24_at(s, at),
+            byte: byte_at(s, at + 3),
+        };
+    }
+    let word = word_at(s, at);
+    U24Byte {
+        number: word % U24_END,
+        byte: (word / U24_END) as u8,
+    }
 }
 
 // The 32-bit number at a place.
@@ -101,4 +130,24 @@ fn number_at(s: &[u8], at: usize, width: usize) -> u64
         value = value * 256 + byte_at(s, at + i) as u64;
     }
     value
+}
+
+// The 4 bytes at a place, which are all there, as one number. The sum is written flat: nested, as a + 256 * (b + ..), it
+// becomes three loads.
+fn word_at(s: &[u8], at: usize) -> u32
+    requires { ⌜ at + 4 ≤ length (now s) ⌝ }
+    ensures { λ r. ⌜ (r % 2 ^ 24 ≡ le 3 (now (s .entry)) at) × (r / 2 ^ 24 ≡ getD (now (s .entry)) (at + 3) 0) ⌝ }
+{
+    let a = byte(s[at]);
+    let b = byte(s[at + 1]);
+    let c = byte(s[at + 2]);
+    let d = byte(s[at + 3]);
+    a + 256 * b + 65_536 * c + U24_END * d
+}
+
+// A byte as a 32-bit number. It stays below 256, so that a sum of four fits.
+fn byte(x: u8) -> u32
+    ensures { λ r. ⌜ (r ≡ x) × (r < 256) ⌝ }
+{
+    x as u32
 }

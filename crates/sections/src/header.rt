@@ -1,8 +1,8 @@
 // Reading the header of the section at one start.
 ghost use mathlib.Core.Path.{_≡_};
-ghost use Prim.Native.Nat.{_+_, _/_, _%_, _≤_, _<_, _^_};
+ghost use Prim.Native.Nat.{_<_};
 ghost use lib.ListN.{length};
-ghost use Rattle.sections.specs.Header.{sizeAt, typeAt, headAt, Lies};
+ghost use Rattle.sections.specs.Header.{headAt, Lies};
 use crate::types::COMMON_HEADER;
 use crate::types::COMPRESSION_HEADER;
 use crate::types::Class;
@@ -20,13 +20,6 @@ const COMPRESSION_KIND: usize = 8;
 const DATA_OFFSET: usize = 20;
 
 const ATTRIBUTES: usize = 22;
-
-// What the bytes of a header's first word count for. The size is the word modulo TYPE_UNIT, the type the word by TYPE_UNIT.
-const MIDDLE_UNIT: u32 = 256;
-
-const HIGH_UNIT: u32 = 65_536;
-
-const TYPE_UNIT: u32 = 16_777_216;
 
 // What stands at a start: a fault, a section that is not opened (a leaf, or a holder with packed
 // contents), or a holder whose contents, from `from` to `end`, are searched. A section shows the
@@ -55,9 +48,9 @@ pub(crate) fn read_head(s: &[u8], at: usize) -> Head
     if left < COMMON_HEADER {
         return Head::Fault(201);
     }
-    let word = word_at(s, at);
-    let size = (word % TYPE_UNIT) as usize;
-    let section_type = (word / TYPE_UNIT) as u8;
+    let head = numbers::u24_byte_at(s, at);
+    let size = head.number as usize;
+    let section_type = head.byte;
     let info = type_info(section_type);
     let least = info.least;
     if size < least {
@@ -82,26 +75,6 @@ pub(crate) fn read_head(s: &[u8], at: usize) -> Head
             end,
         },
     }
-}
-
-// The size and the type at a start, as one number. In an archive it is one load: the 4 bytes are known to be there, and the sum
-// is written flat (nested, as a + 256 * (b + ..), it becomes three loads).
-fn word_at(s: &[u8], at: usize) -> u32
-    requires { ⌜ at + 4 ≤ length (now s) ⌝ }
-    ensures { λ r. ⌜ (r % 2 ^ 24 ≡ sizeAt (now (s .entry)) at) × (r / 2 ^ 24 ≡ typeAt (now (s .entry)) at) ⌝ }
-{
-    let low = wide(s[at]);
-    let middle = wide(s[at + 1]);
-    let high = wide(s[at + 2]);
-    let section_type = wide(s[at + TYPE]);
-    low + MIDDLE_UNIT * middle + HIGH_UNIT * high + TYPE_UNIT * section_type
-}
-
-// A byte as a 32-bit number. It stays below 256, so that a sum of four fits.
-fn wide(x: u8) -> u32
-    ensures { λ r. ⌜ (r ≡ x) × (r < 256) ⌝ }
-{
-    x as u32
 }
 
 // The holder that lies whole at a start.

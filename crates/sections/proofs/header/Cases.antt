@@ -115,13 +115,13 @@ module _ (s : List ℕ) (at : ℕ) where
       three : (b : Bool) → 4 ≤ length s - at → typeInfo (typeAt s at) .least ≤ sizeAt s at → ltb (length s - at) (sizeAt s at) ≡ b → AtStart s at
       three true a b e =
           let past = ltb-true _ _ e in
-          inl (203, sym (tests.head-203 s at refl refl refl refl refl a b past), inr (inr (inl (refl, a, b, past))))
+          inl (203, sym (tests.head-203 s at refl refl refl a b past), inr (inr (inl (refl, a, b, past))))
       three false a b e = four _ a b (ltb-false _ _ e) refl
 
       two : (b : Bool) → 4 ≤ length s - at → ltb (sizeAt s at) (typeInfo (typeAt s at) .least) ≡ b → AtStart s at
       two true a e =
           let small = ltb-true _ _ e in
-          inl (202, sym (tests.head-202 s at refl refl refl refl refl a small), inr (inl (refl, a, small)))
+          inl (202, sym (tests.head-202 s at refl refl refl a small), inr (inl (refl, a, small)))
       two false a e = three _ a (ltb-false _ _ e) refl
 
       one : (b : Bool) → ltb (length s - at) 4 ≡ b → AtStart s at
@@ -161,8 +161,8 @@ module _ (s : List ℕ) (at : ℕ) where
 
   answered : (n : ℕ) → FirstFault s at n → headAt s at ≡ Fault n
   answered n (inl (e, few)) = sym (tests.head-201 s at few) ∙ ap Fault (sym e)
-  answered n (inr (inl (e, a, small))) = sym (tests.head-202 s at refl refl refl refl refl a small) ∙ ap Fault (sym e)
-  answered n (inr (inr (inl (e, a, b, past)))) = sym (tests.head-203 s at refl refl refl refl refl a b past) ∙ ap Fault (sym e)
+  answered n (inr (inl (e, a, small))) = sym (tests.head-202 s at refl refl refl a small) ∙ ap Fault (sym e)
+  answered n (inr (inr (inl (e, a, b, past)))) = sym (tests.head-203 s at refl refl refl a b past) ∙ ap Fault (sym e)
   answered n (inr (inr (inr (e, a, b, c, wrong)))) = head-204 a b c wrong ∙ ap Fault (sym e)
 
   -- so a fault is there exactly when its test is the first that applies
@@ -183,10 +183,10 @@ module _ (s : List ℕ) (at : ℕ) where
   -- attribute bit 0 is clear
   module _ (four : 4 ≤ length s - at) (least : typeInfo (typeAt s at) .least ≤ sizeAt s at) (fits : sizeAt s at ≤ length s - at) where
     pub leaf-closed : (typeAt s at ≡ compression → ⊥) → (typeAt s at ≡ guidDefined → ⊥) → headAt s at ≡ Closed (typeAt s at) (at + 4) (at + sizeAt s at)
-    leaf-closed a b = sym (tests.head-leaf s at refl refl refl refl refl (not-holder (typeAt s at) (ne-eqb _ _ a) (ne-eqb _ _ b)) four least fits refl refl)
+    leaf-closed a b = sym (tests.head-leaf s at refl refl refl (not-holder (typeAt s at) (ne-eqb _ _ a) (ne-eqb _ _ b)) four least fits refl refl)
 
     lies : {t : ℕ} → t ≡ typeAt s at → isHolder (typeInfo (typeAt s at) .class) ≡ true → Lies s at t (sizeAt s at)
-    lies e holds = rw e (tests.head-lies s at refl refl refl refl refl holds least (omega arith) fits)
+    lies e holds = rw e (tests.head-lies s at refl refl refl holds least (omega arith) fits)
 
     module _ (typed : typeAt s at ≡ compression) where
       pub compression-open : compressionKind s at ≡ 0 → unpackedLength s at ≡ sizeAt s at - 9 → headAt s at ≡ Open compression (at + 4) (at + 9) (at + sizeAt s at)

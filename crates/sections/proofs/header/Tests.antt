@@ -1,5 +1,5 @@
 -- What the reader of a section header meets, test by test, in order: 201 to 203, then the holder's own fields and 204.
-use Prim.Native.Nat.{ℕ, _+_, _-_, _*_, _/_, _%_, _^_, _≤_, _<_}
+use Prim.Native.Nat.{ℕ, _+_, _-_, _%_, _≤_, _<_}
 use mathlib.Core.Path.{_≡_, sym, ap, _∙_}
 use mathlib.Core.Bool.{Bool, true, false, cond, _&&_}
 use mathlib.Core.List.{List}
@@ -15,14 +15,6 @@ use Rattle.sections.specs.Header.{contentsAt, firstAt, packed, wrongCont
 use Rattle.sections.specs.declared.types.TypeInfo.{TypeInfo}
 use Rattle.sections.specs.declared.header.Head.the-variants.{Fault, Closed, Open}
 use Rattle.sections.proofs.types.Rows.{least-range}
-
--- a header's first four bytes as one number: the size is that modulo 2 ^ 24, the type that by 2 ^ 24
-pub word-parts : (s : List ℕ) (at : ℕ) {a b c d word : ℕ} → a ≡ getD s at 0 → b ≡ getD s (at + 1) 0 → c ≡ getD s (at + 2) 0 → d ≡ typeAt s at
-    → a < 256 → b < 256 → c < 256 → d < 256 → word ≡ a + 256 * b + 65536 * c + 16777216 * d → (word % 2 ^ 24 ≡ sizeAt s at) × (word / 2 ^ 24 ≡ typeAt s at)
-unfolding le
-word-parts s at ea eb ec ed ha hb hc hd w =
-    let third : getD s (at + 1 + 1) 0 ≡ getD s (at + 2) 0 = ap (λ (i : ℕ). getD s i 0) (omega arith) in
-    (omega arith, omega arith)
 
 -- the reader's tests, in order, over the type, the size and the class that it read
 pub head-201 : (s : List ℕ) (at : ℕ) → length s - at < 4 → Fault 201 ≡ headAt s at

@@ -10,14 +10,11 @@ sub-left c = search needs
 returns : tie.Need-returns
 returns c = head-201 _ _ (search needs)
 
-word-at-requires : tie.Need-word-at-requires
-word-at-requires c κs = search needs
+u24-byte-at-requires : tie.Need-u24-byte-at-requires
+u24-byte-at-requires c κs = search needs
 
 cast-size : tie.Need-cast-size
 cast-size c = search needs
-
-cast-section-type : tie.Need-cast-section-type
-cast-section-type c = search needs
 
 type-info-requires : tie.Need-type-info-requires
 type-info-requires c κs = search needs
@@ -25,14 +22,14 @@ type-info-requires c κs = search needs
 returns-2 : tie.Need-returns-2
 returns-2 c =
     let known = c .before in
-    let word = known .before .word-at .ensures in
-    head-202 _ _ (word .1) (word .0) (known .type-info .ensures) (search needs) (search needs)
+    let read = known .before .before .u24-byte-at .ensures in
+    head-202 _ _ (read .1) (read .0) (known .type-info .ensures) (search needs) (search needs)
 
 returns-3 : tie.Need-returns-3
 returns-3 c =
     let known = c .before .before in
-    let word = known .before .word-at .ensures in
-    head-203 _ _ (word .1) (word .0) (known .type-info .ensures) (search needs) (search needs) (search needs)
+    let read = known .before .before .u24-byte-at .ensures in
+    head-203 _ _ (read .1) (read .0) (known .type-info .ensures) (search needs) (search needs) (search needs)
 
 add-first : tie.Need-add-first
 add-first c = search needs
@@ -46,8 +43,8 @@ enum-told c = search needs
 holder-requires : tie.Need-holder-requires
 holder-requires c κs =
     let known = c .before .before .before .before in
-    let word = known .before .word-at .ensures in
-    head-lies _ _ (word .1) (word .0) (known .type-info .ensures) (rw (c .enum-told .given .1)) (search needs) (search needs) (search needs)
+    let read = known .before .before .u24-byte-at .ensures in
+    head-lies _ _ (read .1) (read .0) (known .type-info .ensures) (rw (c .enum-told .given .1)) (search needs) (search needs) (search needs)
 
 enum-told-2 : tie.Need-enum-told-2
 enum-told-2 c = search needs
@@ -61,14 +58,14 @@ returns-4 c = search needs
 returns-5 : tie.Need-returns-5
 returns-5 c =
     let known = c .before .before .before .before in
-    let word = known .before .word-at .ensures in
-    head-leaf _ _ (word .1) (word .0) (known .type-info .ensures) (rw (c .enum-told2 .given .1)) (search needs) (search needs) (search needs) (search needs) (search needs)
+    let read = known .before .before .u24-byte-at .ensures in
+    head-leaf _ _ (read .1) (read .0) (known .type-info .ensures) (rw (c .enum-told2 .given .1)) (search needs) (search needs) (search needs) (search needs) (search needs)
 
 returns-6 : tie.Need-returns-6
 returns-6 c =
     let known = c .before .before .before .before in
-    let word = known .before .word-at .ensures in
-    head-leaf _ _ (word .1) (word .0) (known .type-info .ensures) (rw (c .enum-told3 .given .1)) (search needs) (search needs) (search needs) (search needs) (search needs)
+    let read = known .before .before .u24-byte-at .ensures in
+    head-leaf _ _ (read .1) (read .0) (known .type-info .ensures) (rw (c .enum-told3 .given .1)) (search needs) (search needs) (search needs) (search needs) (search needs)
 
 pub read-head-spec : {M : Type 1} → statement M
 read-head-spec =
@@ -76,9 +73,8 @@ read-head-spec =
     (tie.spec
     sub-left
     returns
-    word-at-requires
+    u24-byte-at-requires
     cast-size
-    cast-section-type
     type-info-requires
     returns-2
     returns-3
