@@ -4,7 +4,7 @@ A line of a case for each call: the case's name, the call, and
   get attributes        number, settings
   set attributes        number, settings, the state afterwards
   get physical address  number, base
-  get block size        block, number, block length, blocks to the end of its map entry
+  get block size        block, number, block length, consecutive blocks of that length from it on
   read                  block, offset, buffer length, number, count, the buffer's change
   write                 block, offset, data length, number, count
   erase blocks          words of the list, number
@@ -60,12 +60,27 @@ def erase_page_cases():
             yield run(name % kind, own, [erase(5, 3, 10, 2, END)])
 
 
+def run_maps():
+    """(name, map, blocks asked for): runs of equal blocks through neighbouring map entries"""
+    yield "two equal neighbours are one run: 2", [2, 512, 2, 512], range(5)
+    yield "three entries, the middle one different: 2", [2, 256, 1, 512, 3, 256], range(7)
+    yield "a run behind another length and before one: 2", [1, 512, 2, 256, 3, 256, 2, 64], range(9)
+    yield "neighbours that differ by one byte: 2", [2, 256, 1, 255, 2, 256, 1, 257, 1, 256], range(8)
+    yield "32 equal entries, the first, a middle and the last block: 2", [2, 32] * 32, (0, 1, 31, 32, 33, 62, 63, 64) + PAST
+    yield "31 equal entries and a last one of another length: 2", [2, 32] * 31 + [2, 64], (0, 30, 61, 62, 63, 64)
+    yield "a first entry of another length and 31 equal ones: 2", [2, 64] + [2, 32] * 31, (0, 1, 2, 3, 33, 63, 64)
+
+
 def size_cases():
     for block in range(8):
         yield run("size of block %d of a mixed map" % block, MIXED, [("size", block)])
     yield run("size of blocks past a mixed map: 2", MIXED, [("size", block) for block in (8,) + PAST])
-    same = header([2, 512, 2, 512])
-    yield run("the number of blocks ends with the map entry", same, [("size", block) for block in range(4)])
+    for name, map_words, blocks in run_maps():
+        yield run(name, header(map_words), [("size", block) for block in blocks])
+    longest = given([32767, 1, 1, 1, 32768, 1], 65536)
+    yield run("a run of 65,536 blocks in three entries: 2", b"", [("size", block) for block in (0, 32767, 32768, 65535, 65536)], state=longest)
+    high = given([2, 0x100, 1, 0x10100, 2, 0x100, 1, 0x100100], 0x110600)
+    yield run("lengths that differ above their low 16 bits: 2", b"", [("size", block) for block in range(7)], state=high)
     full = header(FULL_MAP, attributes=ALL)
     yield run("sizes of the first and the last block of 32 entries, and past it: 2", full, [("size", 0), ("size", 31), ("size", 32)])
     yield run("erases up to the last of 32 entries, and past it: 2", full, [erase(31, 2, END), erase(30, 2, END), erase(0, 32, END)])

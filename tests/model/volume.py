@@ -6,6 +6,7 @@ the refusal number. Lent bytes are bytearrays and are changed in place.
 """
 
 from collections import namedtuple
+from itertools import takewhile
 
 READ_DISABLE, READ_ENABLE, READ_STATUS = 0x1, 0x2, 0x4
 WRITE_DISABLE, WRITE_ENABLE, WRITE_STATUS = 0x8, 0x10, 0x20
@@ -138,10 +139,10 @@ def entries_of(state):
 
 
 def find_block(state, block):
-    """(first byte, length, blocks to the end of the entry) or None"""
+    """(first byte, length) or None"""
     for first, count, length, place in entries_of(state):
         if first <= block < first + count:
-            return place + (block - first) * length, length, first + count - block
+            return place + (block - first) * length, length
     return None
 
 
@@ -179,11 +180,13 @@ def get_physical_address(state):
 
 
 def get_block_size(state, block):
-    """(number, block length, blocks to the end of the entry)"""
+    """(number, block length, consecutive blocks of that length from the block on): the lengths of all blocks, one by one"""
     if unlawful(state):
         return 111, 0, 0
-    found = find_block(state, block)
-    return (2, 0, 0) if found is None else (0, found[1], found[2])
+    lengths = [length for _, count, length, _ in entries_of(state) for _ in range(count)][block:]
+    if not lengths:
+        return 2, 0, 0
+    return 0, lengths[0], sum(1 for _ in takewhile(lambda length: length == lengths[0], lengths))
 
 
 def refused(state, volume, status):
@@ -258,7 +261,7 @@ def erase_blocks(state, volume, words):
     value = 0xFF if state.attributes & ERASE_ONE else 0
     for first, count in pairs:
         for block in range(first, first + count):
-            place, length, _ = find_block(state, block)
+            place, length = find_block(state, block)
             volume[place:place + length] = bytes([value]) * length
     return (0,)
 

@@ -17,7 +17,7 @@ use Rattle.volume.specs.BlockMap.{blocks}
 use Rattle.volume.specs.State.{mapOf, unlawful}
 use Rattle.volume.specs.declared.state.State.{State}
 use Rattle.block_service.specs.Access.{countMoved, writtenByte, erasedByte, changedByte, writeChange}
-use Rattle.block_service.specs.Blocks.{place, inBlock}
+use Rattle.block_service.specs.Blocks.{place, HasLength, numberOfBlocks, inBlock}
 use Rattle.block_service.specs.Erase.{endOfList, goodList, names, eraseChange}
 use Rattle.block_service.specs.Service.{Call, getAttributes, getPhysicalAddress, setAttributes, getBlockSize, read, write, eraseBlocks}
 use Rattle.block_service.specs.Service.{refusals, moveAnswer, withAttributes, result, bufferOf, step}
@@ -25,6 +25,7 @@ use Rattle.block_service.specs.Settings.{changesFixed, lacksCapability}
 use Rattle.block_service.specs.declared.blocks.Place.the-variants.{At}
 use Rattle.block_service.proofs.access.Moves as Moves
 use Rattle.block_service.proofs.blocks.Places as Places
+use Rattle.block_service.proofs.blocks.Runs as Runs
 use Rattle.block_service.proofs.settings.Rules as Rules
 use Rattle.block_service.proofs.service.Erasing as Erasing
 use Rattle.block_service.proofs.service.Kept as Kept
@@ -120,9 +121,9 @@ erase-allowed = Erasing.erase-allowed
 pub settings-read : (st : State) (v : List ℕ) → unlawful st ≡ false → step st v getAttributes ≡ result (success (st .attributes ∷ [])) st v []
 settings-read = Steps.settings-read
 
--- the size of a block that is there is answered, by its place
+-- the size of a block that is there is answered: its length, and its number of consecutive blocks
 pub size-answered : (st : State) (v : List ℕ) (b : ℕ) → unlawful st ≡ false → b < blocks (mapOf st)
-    → (e : ℕ) × (s : ℕ) × (l : ℕ) × (r : ℕ) × (place (mapOf st) b ≡ At e s l r) × (step st v (getBlockSize b) ≡ result (success (l ∷ r ∷ [])) st v [])
+    → (l : ℕ) × HasLength (mapOf st) b l × (step st v (getBlockSize b) ≡ result (success (l ∷ numberOfBlocks (mapOf st) b ∷ [])) st v [])
 size-answered = Sizes.size-answered
 
 -- "the base address uses 111, then 3"
@@ -173,17 +174,31 @@ one-block = Sizes.one-block
 pub entry-settles : (m rest : List ℕ) (b : ℕ) → b < blocks m → place (m ++ rest) b ≡ place m b
 entry-settles = Places.entry-settles
 
--- "Block size answers the length, and the number of blocks from the one asked to the end of its map entry, itself included": a block that it answers
--- for is there, in an entry e, with that length and that number
-pub size-place : (st : State) (v : List ℕ) (b l r : ℕ) → step st v (getBlockSize b) .answer ≡ success (l ∷ r ∷ [])
-    → (e : ℕ) × (s : ℕ) × (place (mapOf st) b ≡ At e s l r)
-size-place = Sizes.size-place
+-- "Block size answers the length": a block that it answers for is there, with that length
+pub size-length : (st : State) (v : List ℕ) (b l n : ℕ) → step st v (getBlockSize b) .answer ≡ success (l ∷ n ∷ []) → HasLength (mapOf st) b l
+size-length = Sizes.size-length
 
--- and the r blocks from b on lie one after the other in b's entry, all of length l; the block after them, if there is one, is in a later entry
-pub run-in-entry : (m : List ℕ) (b e s l r : ℕ) → place m b ≡ At e s l r
-    → ((k : ℕ) → k < r → place m (b + k) ≡ At e (s + k * l) l (r - k))
-    × ((e' s' l' r' : ℕ) → place m (b + r) ≡ At e' s' l' r' → e < e')
-run-in-entry = Sizes.run-in-entry
+-- and "the number of consecutive blocks, starting with Lba .. All blocks in this range have a size of BlockSize" (000): each of the n blocks from b on
+-- has length l
+pub size-alike : (st : State) (v : List ℕ) (b l n : ℕ) → step st v (getBlockSize b) .answer ≡ success (l ∷ n ∷ [])
+    → (k : ℕ) → k < n → HasLength (mapOf st) (b + k) l
+size-alike = Sizes.size-alike
+
+-- the block after them, if there is one, has another length
+pub size-ends : (st : State) (v : List ℕ) (b l n : ℕ) → step st v (getBlockSize b) .answer ≡ success (l ∷ n ∷ [])
+    → (l' : ℕ) → HasLength (mapOf st) (b + n) l' → l' ≡ l → ⊥
+size-ends = Sizes.size-ends
+
+-- and no other number is so: the two say all of it
+pub size-only : (st : State) (v : List ℕ) (b l n : ℕ) → step st v (getBlockSize b) .answer ≡ success (l ∷ n ∷ [])
+    → (k : ℕ) → ((i : ℕ) → i < k → HasLength (mapOf st) (b + i) l) → (HasLength (mapOf st) (b + k) l → ⊥) → k ≡ n
+size-only = Sizes.size-only
+
+-- where no two neighbouring entries have the same length, the number is 01's: "the number of blocks from the one asked to the end of its map entry,
+-- itself included", r
+pub number-in-entry : (m : List ℕ) (b e s l r : ℕ) → place m b ≡ At e s l r
+    → ((i : ℕ) → 2 * (i + 1) + 1 < length m → getD m (2 * i + 1) 0 ≡ getD m (2 * (i + 1) + 1) 0 → ⊥) → numberOfBlocks m b ≡ r
+number-in-entry = Runs.number-in-entry
 
 -- ---- read and write, of a block that starts at byte s and has length l
 

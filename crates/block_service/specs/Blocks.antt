@@ -3,7 +3,8 @@
 use Prim.Native.Nat.{ℕ, _+_, _-_, _*_, _/_, min}
 use mathlib.Core.Bool.{Bool, false, cond, _&&_}
 use mathlib.Core.List.{List, [], _∷_}
-use lib.Dec.{leb, ltb}
+use mathlib.Core.Path.{_≡_}
+use lib.Dec.{eqb, leb, ltb}
 use Rattle.block_service.specs.declared.blocks.Place.{Place}
 use Rattle.block_service.specs.declared.blocks.Place.the-variants.{At, Missing}
 
@@ -20,7 +21,11 @@ placeFrom (count ∷ len ∷ rest) e s b =
 unfoldable pub place : List ℕ → ℕ → Place
 place map b = placeFrom map 0 0 b
 
--- a place's first byte, length, and number of blocks to the end of the entry; 0 where there is no such block
+-- block b is there, and its length is l
+abbrev pub HasLength : List ℕ → ℕ → ℕ → Type 0
+HasLength map b l = (e : ℕ) × (s : ℕ) × (r : ℕ) × (place map b ≡ At e s l r)
+
+-- a place's first byte and length; 0 where there is no such block
 unfoldable pub startOf : Place → ℕ
 startOf (At e s l r) = s
 startOf Missing = 0
@@ -29,9 +34,23 @@ unfoldable pub lengthOf : Place → ℕ
 lengthOf (At e s l r) = l
 lengthOf Missing = 0
 
-unfoldable pub leftOf : Place → ℕ
-leftOf (At e s l r) = r
-leftOf Missing = 0
+-- the number of blocks of this length with which the entries begin: those of the entries before the first of another length
+unfoldable pub equalBlocks : List ℕ → ℕ → ℕ
+equalBlocks [] len = 0
+equalBlocks (count ∷ []) len = 0
+equalBlocks (count ∷ l ∷ rest) len =
+    let later = equalBlocks rest len in
+    cond (eqb l len) (count + later) 0
+
+-- GetBlockSize's NumberOfBlocks (document 000): "the number of consecutive blocks, starting with Lba, is returned. All blocks in this range have a
+-- size of BlockSize." From block b to the end of its entry, and on through the entries after it up to the first of another length (document 02, b);
+-- 0 where there is no such block
+unfoldable pub numberOfBlocks : List ℕ → ℕ → ℕ
+numberOfBlocks [] b = 0
+numberOfBlocks (count ∷ []) b = 0
+numberOfBlocks (count ∷ len ∷ rest) b =
+    let later = numberOfBlocks rest (b - count) in
+    cond (ltb b count) (count - b + equalBlocks rest len) later
 
 -- byte i lies in the place
 unfoldable pub holds : Place → ℕ → Bool

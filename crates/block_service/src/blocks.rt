@@ -4,7 +4,7 @@ ghost use Prim.Native.Nat.{_+_, _*_, _≤_, _<_};
 ghost use mathlib.Core.List.{_∷_};
 ghost use lib.ListN.{length, take, drop, getD};
 ghost use Rattle.volume.specs.BlockMap.{blocks, bytes, maxEntries, maxLength, maxBlocks};
-ghost use Rattle.block_service.specs.Blocks.{place, firstByte};
+ghost use Rattle.block_service.specs.Blocks.{place, equalBlocks, firstByte};
 use numbers::wide;
 
 // The place of a block: its map entry, the byte of the volume at which it starts, its length, and the
@@ -72,6 +72,26 @@ pub(crate) fn block_count(words: &[u32]) -> usize
     while entry < entries {
         count += wide(words[2 * entry]) as usize;
         entry += 1;
+    }
+    count
+}
+
+// The number of consecutive blocks of length `len` from one on of which `left` blocks of its entry are left: those, and
+// the blocks of the entries after it up to the first of another length.
+pub(crate) fn equal_blocks(words: &[u32], entry: usize, len: usize, left: usize) -> usize
+    requires { ⌜ 2 * entry + 1 < length (now words) ⌝ }
+    requires { ⌜ left + blocks (drop (2 * (entry + 1)) (now words)) ≤ maxBlocks ⌝ }
+    ensures { λ r. ⌜ r ≡ left + equalBlocks (drop (2 * (entry + 1)) (now (words .entry))) len ⌝ }
+{
+    let entries = words.len() / 2;
+    let mut count = left;
+    let mut i = entry + 1;
+    while i < entries {
+        if wide(words[2 * i + 1]) as usize != len {
+            break;
+        }
+        count += wide(words[2 * i]) as usize;
+        i += 1;
     }
     count
 }

@@ -17,6 +17,7 @@ use crate::access::count_moved;
 use crate::access::load;
 use crate::access::store;
 use crate::blocks::Place;
+use crate::blocks::equal_blocks;
 use crate::blocks::locate;
 use crate::erase::erase_good;
 use crate::erase::erased_byte;
@@ -48,7 +49,7 @@ pub enum Address {
     Refused(u16),
 }
 
-// A block's length, and the number of blocks from it to the end of its map entry, itself included.
+// A block's length, and the number of consecutive blocks of that length from it on, itself included.
 pub enum BlockSize {
     Success { length: usize, count: usize },
     Refused(u16),
@@ -132,8 +133,8 @@ pub fn get_physical_address(st: State) -> Address
     Address::Success(st.base)
 }
 
-// A block's length, and the number of blocks from it to the end of its map entry. Refused with 111, or 2 where
-// there is no such block.
+// A block's length, and the number of consecutive blocks of that length from it on, itself included, through
+// neighbouring map entries too. Refused with 111, or 2 where there is no such block.
 pub fn get_block_size(st: State, block: u64) -> BlockSize
     ensures { λ r. ⌜ ((v : List ℕ) → result (blockSizeAnswer r) st v [] ≡ step st v (getBlockSize block)) ⌝ }
 {
@@ -143,7 +144,7 @@ pub fn get_block_size(st: State, block: u64) -> BlockSize
     }
     let found = locate(st.entries, &map, block);
     let Place::At {
-        entry: _,
+        entry,
         start: _,
         len,
         left,
@@ -151,10 +152,9 @@ pub fn get_block_size(st: State, block: u64) -> BlockSize
     else {
         return BlockSize::Refused(2);
     };
-    BlockSize::Success {
-        length: len,
-        count: left,
-    }
+    let end = 2 * st.entries;
+    let count = equal_blocks(&map[..end], entry, len, left);
+    BlockSize::Success { length: len, count }
 }
 
 // Reads from an offset of a block into the start of the buffer; the rest of the buffer stays. Refused with 111, 5, 15

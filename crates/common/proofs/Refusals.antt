@@ -1,7 +1,7 @@
 -- Laws of refusal tables: what a passed table says of its rows, and a table made of two.
 use Prim.Native.Nat.{ℕ}
 use mathlib.Core.Path.{_≡_, refl}
-use mathlib.Core.Bool.{Bool, true, false, cond, true≢false}
+use mathlib.Core.Bool.{Bool, true, false, cond, _||_, true≢false}
 use mathlib.Core.List.{List, [], _∷_, _++_}
 use mathlib.Core.Option.{Option, none, some, Option·some-ne-none, Option·none-ne-some}
 use Rattle.common.specs.Refusals.{Row, row, firstRefusal, any}
@@ -36,11 +36,15 @@ unfolding firstRefusal
 front-passed [] b e = refl
 front-passed (r ∷ rest) b e = let p = row-passed r (rest ++ b) e in rw (p .0) (front-passed rest b (p .1))
 
+-- of two tests neither holds
+pub neither : (a b : Bool) → (a || b) ≡ false → (a ≡ false) × (b ≡ false)
+neither true b e = absurd (true≢false e)
+neither false b e = (refl, e)
+
 -- where no test of a list holds, its first does not, and none of the others
 pub any-passed : (t : Bool) (rest : List Bool) → any (t ∷ rest) ≡ false → (t ≡ false) × (any rest ≡ false)
 unfolding any
-any-passed true rest e = absurd (true≢false e)
-any-passed false rest e = (refl, e)
+any-passed t rest e = neither t (any rest) e
 
 -- a table's first row applies, or the table is that of the rows after it
 pub row-applies : (t : Bool) (n : ℕ) (rest : List Row) → t ≡ true → firstRefusal (row t n ∷ rest) ≡ some n

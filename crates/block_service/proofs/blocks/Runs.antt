@@ -1,16 +1,17 @@
--- Runs of blocks: the blocks from one to the end of its map entry, and where a run of blocks ends, for the walk over the entries that an erase makes.
+-- Runs of blocks: the blocks of one length from a block on, and where a run of blocks ends, for the walk over the entries that an erase makes.
 use Prim.Native.Nat.{ℕ, suc, _+_, _-_, _*_, _≤_, _<_, min}
 use mathlib.Core.Path.{_≡_, refl, sym, ap, _∙_}
 use mathlib.Core.Bool.{Bool, true, false, cond}
 use mathlib.Core.List.{List, [], _∷_}
 use native.Mathlib.Nat.{add-assoc, zero-add, mul-le-mul-right, add-mul, sub-zero}
 use native.Mathlib.Omega.{arith}
-use borrow.Author.Tests.{lt-ltb, le-ltb, ltb-true, ltb-false}
-use lib.Dec.{ltb}
+use borrow.Author.Tests.{lt-ltb, le-ltb, ltb-true, ltb-false, eq-eqb, ne-eqb, eqb-true, eqb-false}
+use lib.Dec.{eqb, ltb}
 use lib.ListN.{length, getD, drop, length-drop}
 use Rattle.common.proofs.Lists.{drop-two}
-use Rattle.volume.specs.BlockMap.{blocks, bytes, maxLength}
-use Rattle.block_service.specs.Blocks.{placeFrom, place, firstByte}
+use Rattle.common.proofs.Refusals.{neither}
+use Rattle.volume.specs.BlockMap.{blocks, bytes, hasZero, maxLength, maxBlocks}
+use Rattle.block_service.specs.Blocks.{placeFrom, place, HasLength, equalBlocks, numberOfBlocks, firstByte}
 use Rattle.block_service.specs.declared.blocks.Place.the-variants.{At, Missing}
 use Rattle.volume.proofs.block_map.Words.{blocks-entry, bytes-entry}
 use Rattle.block_service.proofs.blocks.Places.{firstByte-zero, firstByte-here, firstByte-past, firstByte-le}
@@ -23,6 +24,14 @@ place-here c l rest e s b h = rw (lt-ltb b c h)
 place-past : (c l : ℕ) (rest : List ℕ) (e s b : ℕ) → c ≤ b → placeFrom (c ∷ l ∷ rest) e s b ≡ placeFrom rest (e + 1) (s + c * l) (b - c)
 unfolding placeFrom
 place-past c l rest e s b h = rw (le-ltb b c h)
+
+-- the words of an entry, and of those after it, where no word is 0
+entry-nonzero : (c l : ℕ) (rest : List ℕ) → hasZero (c ∷ l ∷ rest) ≡ false → (0 < c) × (hasZero rest ≡ false)
+unfolding hasZero
+entry-nonzero c l rest h =
+    let a = neither (eqb c 0) _ h in
+    let d = eqb-false c 0 (a .0) in
+    (omega arith, neither (eqb l 0) _ (a .1) .1)
 
 -- a search finds block b at entry e': in its first entry, or over the entries after it
 data Found (e' s' l' r' : ℕ) : (m : List ℕ) (e s b : ℕ) → Type 0 where
@@ -46,32 +55,118 @@ entry-from : {e' s' l' r' : ℕ} {m : List ℕ} {e s b : ℕ} → Found e' s' l'
 entry-from (here c l rest e s b w a1 a2 a3 a4) = omega arith
 entry-from (later c l rest e s b w f) = let q = entry-from f in omega arith
 
--- the blocks to the end of the entry lie one after the other, all of the same length
-pub run-places : (m : List ℕ) (e s b e' s' l' r' k : ℕ) → placeFrom m e s b ≡ At e' s' l' r' → k < r'
-    → placeFrom m e s (b + k) ≡ At e' (s' + k * l') l' (r' - k)
-run-places m e s b e' s' l' r' k h p = go (found m e s b e' s' l' r' h)
-  where
-    go : {m : List ℕ} {e s b : ℕ} → Found e' s' l' r' m e s b → placeFrom m e s (b + k) ≡ At e' (s' + k * l') l' (r' - k)
-    go (here c l rest e s b w a1 a2 a3 a4) =
-        let z : s + (b + k) * l ≡ s' + k * l = rw (add-mul b k l) (omega arith) in
-        let y : c - (b + k) ≡ r' - k = omega arith in
-        place-here c l rest e s (b + k) (omega arith) ∙ rw (z, y, a1, a3)
-    go (later c l rest e s b w f) =
-        let z : b + k - c ≡ b - c + k = omega arith in
-        place-past c l rest e s (b + k) (omega arith) ∙ rw z (go f)
+-- the blocks of one length with which entries begin: the first entry has that length, or another
+equal-here : (c l : ℕ) (rest : List ℕ) (len : ℕ) → l ≡ len → equalBlocks (c ∷ l ∷ rest) len ≡ c + equalBlocks rest len
+unfolding equalBlocks
+equal-here c l rest len h = rw (eq-eqb l len h)
 
--- and the block after them, if there is one, is in a later entry
-pub run-ends : (m : List ℕ) (e s b e' s' l' r' e'' s'' l'' r'' : ℕ)
-    → placeFrom m e s b ≡ At e' s' l' r' → placeFrom m e s (b + r') ≡ At e'' s'' l'' r'' → e' < e''
-run-ends m e s b e' s' l' r' e'' s'' l'' r'' h = go (found m e s b e' s' l' r' h)
+equal-other : (c l : ℕ) (rest : List ℕ) (len : ℕ) → (l ≡ len → ⊥) → equalBlocks (c ∷ l ∷ rest) len ≡ 0
+unfolding equalBlocks
+equal-other c l rest len h = rw (ne-eqb l len h)
+
+-- they are no more than all blocks
+pub equal-le : (m : List ℕ) (len : ℕ) → equalBlocks m len ≤ blocks m
+unfolding equalBlocks blocks
+equal-le [] len = omega arith
+equal-le (c ∷ []) len = omega arith
+equal-le (c ∷ l ∷ rest) len = go (eqb l len) (equal-le rest len)
   where
-    go : {m : List ℕ} {e s b : ℕ} → Found e' s' l' r' m e s b → placeFrom m e s (b + r') ≡ At e'' s'' l'' r'' → e' < e''
-    go (here c l rest e s b w a1 a2 a3 a4) p =
-        let f = entry-from (found rest (e + 1) (s + c * l) (b + r' - c) e'' s'' l'' r'' (sym (place-past c l rest e s (b + r') (omega arith)) ∙ p)) in
-        omega arith
+    go : (t : Bool) → equalBlocks rest len ≤ blocks rest → cond t (c + equalBlocks rest len) 0 ≤ c + blocks rest
+    go true ih = omega arith
+    go false ih = omega arith
+
+-- all of them have that length
+equal-places : (m : List ℕ) (len e s k : ℕ) → k < equalBlocks m len → (e' : ℕ) × (s' : ℕ) × (r' : ℕ) × (placeFrom m e s k ≡ At e' s' len r')
+unfolding equalBlocks
+equal-places [] len e s k h = absurd (omega arith)
+equal-places (c ∷ []) len e s k h = absurd (omega arith)
+equal-places (c ∷ l ∷ rest) len e s k h = go (eqb l len) refl (ltb k c) refl (equal-places rest len (e + 1) (s + c * l) (k - c)) h
+  where
+    go : (t : Bool) → eqb l len ≡ t → (u : Bool) → ltb k c ≡ u
+        → (k - c < equalBlocks rest len → (e' : ℕ) × (s' : ℕ) × (r' : ℕ) × (placeFrom rest (e + 1) (s + c * l) (k - c) ≡ At e' s' len r'))
+        → k < cond t (c + equalBlocks rest len) 0 → (e' : ℕ) × (s' : ℕ) × (r' : ℕ) × (placeFrom (c ∷ l ∷ rest) e s k ≡ At e' s' len r')
+    go true q true w ih h = (e, s + k * l, c - k, place-here c l rest e s k (ltb-true _ _ w) ∙ ap (λ (j : ℕ). At e (s + k * l) j (c - k)) (eqb-true l len q))
+    go true q false w ih h =
+        let p : c ≤ k = ltb-false _ _ w in
+        let i = ih (omega arith) in
+        (i .0, i .1, i .2, place-past c l rest e s k p ∙ i .3)
+    go false q u w ih h = absurd (omega arith)
+
+-- and where no word is 0 the block after them, if there is one, has another length
+equal-ends : (m : List ℕ) (len e s e' s' l' r' : ℕ) → hasZero m ≡ false → placeFrom m e s (equalBlocks m len) ≡ At e' s' l' r' → l' ≡ len → ⊥
+unfolding equalBlocks placeFrom
+equal-ends [] len e s e' s' l' r' n h k = absurd (let z : _≡_ {A = ℕ} 0 1 = cc in omega arith)
+equal-ends (c ∷ []) len e s e' s' l' r' n h k = absurd (let z : _≡_ {A = ℕ} 0 1 = cc in omega arith)
+equal-ends (c ∷ l ∷ rest) len e s e' s' l' r' n h k = go (eqb l len) refl (equal-ends rest len (e + 1) (s + c * l) e' s' l' r' (entry-nonzero c l rest n .1)) h
+  where
+    go : (t : Bool) → eqb l len ≡ t → (placeFrom rest (e + 1) (s + c * l) (equalBlocks rest len) ≡ At e' s' l' r' → l' ≡ len → ⊥)
+        → placeFrom (c ∷ l ∷ rest) e s (cond t (c + equalBlocks rest len) 0) ≡ At e' s' l' r' → ⊥
+    go true q ih h =
+        let z : c + equalBlocks rest len - c ≡ equalBlocks rest len = omega arith in
+        ih (rw z at (sym (place-past c l rest e s (c + equalBlocks rest len) (omega arith)) ∙ h)) k
+    go false q ih h =
+        let d = sym (place-here c l rest e s 0 (entry-nonzero c l rest n .0)) ∙ h in
+        let x : l ≡ l' = cc in
+        eqb-false l len q (x ∙ k)
+
+-- a block's number of consecutive blocks, in an entry that holds it and in one that does not
+number-here : (c l : ℕ) (rest : List ℕ) (b : ℕ) → b < c → numberOfBlocks (c ∷ l ∷ rest) b ≡ c - b + equalBlocks rest l
+unfolding numberOfBlocks
+number-here c l rest b h = rw (lt-ltb b c h)
+
+number-past : (c l : ℕ) (rest : List ℕ) (b : ℕ) → c ≤ b → numberOfBlocks (c ∷ l ∷ rest) b ≡ numberOfBlocks rest (b - c)
+unfolding numberOfBlocks
+number-past c l rest b h = rw (le-ltb b c h)
+
+-- so many blocks from b on have b's length
+run-places : (m : List ℕ) (e s b e' s' l' r' k : ℕ) → placeFrom m e s b ≡ At e' s' l' r' → k < numberOfBlocks m b
+    → (e'' : ℕ) × (s'' : ℕ) × (r'' : ℕ) × (placeFrom m e s (b + k) ≡ At e'' s'' l' r'')
+run-places m e s b e' s' l' r' k h p = go (found m e s b e' s' l' r' h) p
+  where
+    go : {m : List ℕ} {e s b : ℕ} → Found e' s' l' r' m e s b → k < numberOfBlocks m b
+        → (e'' : ℕ) × (s'' : ℕ) × (r'' : ℕ) × (placeFrom m e s (b + k) ≡ At e'' s'' l' r'')
+    go (here c l rest e s b w a1 a2 a3 a4) p = near (ltb (b + k) c) refl
+      where
+        near : (t : Bool) → ltb (b + k) c ≡ t → (e'' : ℕ) × (s'' : ℕ) × (r'' : ℕ) × (placeFrom (c ∷ l ∷ rest) e s (b + k) ≡ At e'' s'' l' r'')
+        near true q = (e, s + (b + k) * l, c - (b + k), place-here c l rest e s (b + k) (ltb-true _ _ q) ∙ ap (λ (j : ℕ). At e (s + (b + k) * l) j (c - (b + k))) a3)
+        near false q =
+            let n = rw (number-here c l rest b w) at p in
+            let i = equal-places rest l (e + 1) (s + c * l) (b + k - c) (omega (arith, ltb-false (b + k) c q)) in
+            (i .0, i .1, i .2, place-past c l rest e s (b + k) (ltb-false _ _ q) ∙ i .3 ∙ ap (λ (j : ℕ). At (i .0) (i .1) j (i .2)) a3)
     go (later c l rest e s b w f) p =
-        let z : b + r' - c ≡ b - c + r' = omega arith in
-        go f (rw z at (sym (place-past c l rest e s (b + r') (omega arith)) ∙ p))
+        let z : b + k - c ≡ b - c + k = omega arith in
+        let i = go f (rw (number-past c l rest b w) at p) in
+        (i .0, i .1, i .2, place-past c l rest e s (b + k) (omega arith) ∙ rw z (i .3))
+
+-- and where no word is 0 the block after them, if there is one, has another length
+run-ends : (m : List ℕ) (e s b e' s' l' r' e'' s'' l'' r'' : ℕ) → hasZero m ≡ false
+    → placeFrom m e s b ≡ At e' s' l' r' → placeFrom m e s (b + numberOfBlocks m b) ≡ At e'' s'' l'' r'' → l'' ≡ l' → ⊥
+run-ends m e s b e' s' l' r' e'' s'' l'' r'' n h p k = go (found m e s b e' s' l' r' h) n p
+  where
+    go : {m : List ℕ} {e s b : ℕ} → Found e' s' l' r' m e s b → hasZero m ≡ false → placeFrom m e s (b + numberOfBlocks m b) ≡ At e'' s'' l'' r'' → ⊥
+    go (here c l rest e s b w a1 a2 a3 a4) n p =
+        let z : b + (c - b + equalBlocks rest l) - c ≡ equalBlocks rest l = omega arith in
+        let p' = rw (number-here c l rest b w) at p in
+        equal-ends rest l (e + 1) (s + c * l) e'' s'' l'' r'' (entry-nonzero c l rest n .1)
+        (rw z at (sym (place-past c l rest e s (b + (c - b + equalBlocks rest l)) (omega arith)) ∙ p')) (k ∙ sym a3)
+    go (later c l rest e s b w f) n p =
+        let z : b + numberOfBlocks rest (b - c) - c ≡ b - c + numberOfBlocks rest (b - c) = omega arith in
+        let p' = rw (number-past c l rest b w) at p in
+        go f (entry-nonzero c l rest n .1) (rw z at (sym (place-past c l rest e s (b + numberOfBlocks rest (b - c)) (omega arith)) ∙ p'))
+
+-- the number, by the rest of the block's entry and the entries after it
+walk-number : (m : List ℕ) (e s b e' s' l' r' : ℕ) → placeFrom m e s b ≡ At e' s' l' r'
+    → numberOfBlocks m b ≡ r' + equalBlocks (drop (2 * (e' + 1 - e)) m) l'
+walk-number m e s b e' s' l' r' h = go (found m e s b e' s' l' r' h)
+  where
+    go : {m : List ℕ} {e s b : ℕ} → Found e' s' l' r' m e s b → numberOfBlocks m b ≡ r' + equalBlocks (drop (2 * (e' + 1 - e)) m) l'
+    go (here c l rest e s b w a1 a2 a3 a4) =
+        let z : 2 * (e' + 1 - e) ≡ 2 = omega arith in
+        rw (z, number-here c l rest b w, a4, a3)
+    go (later c l rest e s b w f) =
+        let o = entry-from f in
+        let z : 2 * (e' + 1 - e) ≡ suc (suc (2 * (e' + 1 - (e + 1)))) = omega arith in
+        rw (z, number-past c l rest b w) (go f)
 
 -- from a block that was found, the first byte of the block n blocks on, by the rest of its entry and the entries after it
 pub walk-end : (m : List ℕ) (e s b e' s' l' r' n : ℕ) → placeFrom m e s b ≡ At e' s' l' r'
@@ -131,23 +226,26 @@ walk-entry m e s b e' s' l' r' h = go (found m e s b e' s' l' r' h)
 
 -- a search over a map's words, at entry i: its words are c and l
 module _ (w : List ℕ) (i : ℕ) where
+  -- what holds where no entry is left
+  no-entry : (P : List ℕ → Type 0) → P [] → ((x : ℕ) → P (x ∷ [])) → length w ≤ 2 * i + 1 → P (drop (2 * i) w)
+  no-entry P none one h = go (drop (2 * i) w) (rw (length-drop (2 * i) w) (omega arith))
+    where
+      go : (m : List ℕ) → length m ≤ 1 → P m
+      go [] p = none
+      go (x ∷ []) p = one x
+      go (x ∷ y ∷ r) p = absurd (omega arith)
+
   pub find-end : (s b : ℕ) → length w ≤ 2 * i + 1 → Missing ≡ placeFrom (drop (2 * i) w) i s b
   unfolding placeFrom
-  find-end s b h = go (drop (2 * i) w) (rw (length-drop (2 * i) w) (omega arith))
-    where
-      go : (m : List ℕ) → length m ≤ 1 → Missing ≡ placeFrom m i s b
-      go [] p = refl
-      go (x ∷ []) p = refl
-      go (x ∷ y ∷ r) p = absurd (omega arith)
+  find-end s b = no-entry (λ m. Missing ≡ placeFrom m i s b) refl (λ x. refl)
 
   pub count-end : length w ≤ 2 * i + 1 → blocks (drop (2 * i) w) ≡ 0
   unfolding blocks
-  count-end h = go (drop (2 * i) w) (rw (length-drop (2 * i) w) (omega arith))
-    where
-      go : (m : List ℕ) → length m ≤ 1 → blocks m ≡ 0
-      go [] p = refl
-      go (x ∷ []) p = refl
-      go (x ∷ y ∷ r) p = absurd (omega arith)
+  count-end = no-entry (λ m. blocks m ≡ 0) refl (λ x. refl)
+
+  pub equal-end : (len : ℕ) → length w ≤ 2 * i + 1 → equalBlocks (drop (2 * i) w) len ≡ 0
+  unfolding equalBlocks
+  equal-end len = no-entry (λ m. equalBlocks m len ≡ 0) refl (λ x. refl)
 
   module _ (c l : ℕ) (h : 2 * i + 1 < length w) (ec : c ≡ getD w (2 * i) 0) (el : l ≡ getD w (2 * i + 1) 0) where
     entry-words : drop (2 * i) w ≡ c ∷ l ∷ drop (2 * (i + 1)) w
@@ -162,8 +260,20 @@ module _ (w : List ℕ) (i : ℕ) where
     pub entry-bytes : bytes (drop (2 * i) w) ≡ c * l + bytes (drop (2 * (i + 1)) w)
     entry-bytes = rw (ec, el) (bytes-entry w i h)
 
+    -- the entry has the length of a run of equal blocks, and the run goes on with the next; or it has another, and the run stops
+    pub equal-on : (len : ℕ) → l ≡ len → equalBlocks (drop (2 * i) w) len ≡ c + equalBlocks (drop (2 * (i + 1)) w) len
+    equal-on len e = rw entry-words (equal-here c l (drop (2 * (i + 1)) w) len e)
+
+    pub equal-stop : (len : ℕ) → (l ≡ len → ⊥) → equalBlocks (drop (2 * i) w) len ≡ 0
+    equal-stop len d = rw entry-words (equal-other c l (drop (2 * (i + 1)) w) len d)
+
     pub entry-blocks : blocks (drop (2 * i) w) ≡ c + blocks (drop (2 * (i + 1)) w)
     entry-blocks = rw ec (blocks-entry w i h)
+
+-- a run of equal blocks goes on with the entry after the block's own
+pub run-starts : (w : List ℕ) (len left i e : ℕ) → i ≡ e + 1
+    → left + equalBlocks (drop (2 * i) w) len ≡ left + equalBlocks (drop (2 * (e + 1)) w) len
+run-starts w len left i e h = rw h
 
 -- a walk from a block on: the blocks left in its entry are enough, or the walk goes on with the next entry
 pub walk-stop : (r l l' : ℕ) (rest : List ℕ) (n at : ℕ) → l ≡ l' → n ≤ r → at + n * l ≡ at + firstByte (r ∷ l' ∷ rest) n
@@ -186,23 +296,48 @@ walk-more w j h = go (ltb (2 * j + 1) (length w)) refl
     go false e = absurd (omega (arith, count-end w j (ltb-false _ _ e)))
 
 -- the same from the map's start: what a walk from a block that was found needs, and where it ends
-module _ (m : List ℕ) (b e s l r n : ℕ) (h : place m b ≡ At e s l r) where
+module _ (m : List ℕ) (b e s l r : ℕ) (h : place m b ≡ At e s l r) where
   found-entry : (2 * e + 1 < length m) × (getD m (2 * e + 1) 0 ≡ l)
   unfolding place
   found-entry = rw (sub-zero e) at (walk-entry m 0 0 b e s l r h)
 
-  pub found-walk : s + firstByte (r ∷ getD m (2 * e + 1) 0 ∷ drop (2 * (e + 1)) m) n ≡ firstByte m (b + n)
+  found-blocks : blocks m ≡ b + (r + blocks (drop (2 * (e + 1)) m))
   unfolding place
-  found-walk = rw (found-entry .1) (sym (rw (sub-zero (e + 1), zero-add (firstByte m (b + n))) at (walk-end m 0 0 b e s l r n h)))
+  found-blocks = rw (sub-zero (e + 1)) at (walk-blocks m 0 0 b e s l r h)
 
-  found-left : b + n ≤ blocks m → n ≤ r + blocks (drop (2 * (e + 1)) m)
+  pub found-walk : (n : ℕ) → s + firstByte (r ∷ getD m (2 * e + 1) 0 ∷ drop (2 * (e + 1)) m) n ≡ firstByte m (b + n)
   unfolding place
-  found-left p = omega (arith, rw (sub-zero (e + 1)) at (walk-blocks m 0 0 b e s l r h))
+  found-walk n = rw (found-entry .1) (sym (rw (sub-zero (e + 1), zero-add (firstByte m (b + n))) at (walk-end m 0 0 b e s l r n h)))
 
-  pub walk-asks : b + n ≤ blocks m → bytes m ≤ maxLength
+  pub walk-asks : (n : ℕ) → b + n ≤ blocks m → bytes m ≤ maxLength
       → (2 * e + 1 < length m)
       × ((n ≤ r + blocks (drop (2 * (e + 1)) m)) × (s + firstByte (r ∷ getD m (2 * e + 1) 0 ∷ drop (2 * (e + 1)) m) n ≤ maxLength))
-  walk-asks p q = (found-entry .0, (found-left p, omega (arith, found-walk, firstByte-le m (b + n))))
+  walk-asks n p q = (found-entry .0, (omega (arith, found-blocks), omega (arith, found-walk n, firstByte-le m (b + n))))
+
+  pub found-number : r + equalBlocks (drop (2 * (e + 1)) m) l ≡ numberOfBlocks m b
+  unfolding place
+  found-number = sym (rw (sub-zero (e + 1)) at (walk-number m 0 0 b e s l r h))
+
+  pub number-asks : blocks m ≤ maxBlocks → (2 * e + 1 < length m) × (r + blocks (drop (2 * (e + 1)) m) ≤ maxBlocks)
+  number-asks p = (found-entry .0, omega (arith, found-blocks))
+
+  -- each of a block's consecutive blocks has its length
+  pub number-alike : (k : ℕ) → k < numberOfBlocks m b → HasLength m (b + k) l
+  unfolding place
+  number-alike k p = run-places m 0 0 b e s l r k h p
+
+  -- the block after them, if there is one, another
+  pub number-ends : hasZero m ≡ false → (l' : ℕ) → HasLength m (b + numberOfBlocks m b) l' → l' ≡ l → ⊥
+  unfolding place
+  number-ends n l' p = run-ends m 0 0 b e s l r (p .0) (p .1) l' (p .2) n h (p .3)
+
+  -- where no two neighbouring entries have the same length, they are those to the entry's end
+  pub number-in-entry : ((i : ℕ) → 2 * (i + 1) + 1 < length m → getD m (2 * i + 1) 0 ≡ getD m (2 * (i + 1) + 1) 0 → ⊥) → numberOfBlocks m b ≡ r
+  number-in-entry d = omega (arith, found-number, go (ltb (2 * (e + 1) + 1) (length m)) refl)
+    where
+      go : (t : Bool) → ltb (2 * (e + 1) + 1) (length m) ≡ t → equalBlocks (drop (2 * (e + 1)) m) l ≡ 0
+      go true q = equal-stop m (e + 1) _ _ (ltb-true _ _ q) refl refl l (λ x. d e (ltb-true _ _ q) (found-entry .1 ∙ sym x))
+      go false q = equal-end m (e + 1) l (ltb-false _ _ q)
 
 -- a later block starts later
 pub firstByte-rises : (m : List ℕ) (b n : ℕ) → firstByte m b ≤ firstByte m (b + n)

@@ -8,6 +8,7 @@ use native.Mathlib.Omega.{arith}
 use borrow.Author.Tests.{ltb-true, ltb-false, eqb-true, eqb-false, not-true, not-false, eq-eqb, ne-eqb}
 use lib.Dec.{eqb, ltb}
 use lib.ListN.{length}
+use Rattle.common.proofs.Refusals.{neither}
 use Rattle.sections.specs.Types.{compression, guidDefined, typeInfo, infoAmong}
 use Rattle.sections.specs.Header.{sizeAt, typeAt, unpackedLength, compressionKind, dataOffset, attributes, isHolder}
 use Rattle.sections.specs.Header.{contentsAt, firstAt, packed, wrongContents, sectionAt, headAt, Lies}
@@ -18,10 +19,6 @@ use Rattle.sections.proofs.header.Tests as tests
 either : (a b : Bool) → (a || b) ≡ true → (a ≡ true) ⊎ (b ≡ true)
 either true b p = inl refl
 either false b p = inr p
-
-neither : (a b : Bool) → (a || b) ≡ false → (a ≡ false) × (b ≡ false)
-neither true b p = let z : _≡_ {A = ℕ} 0 1 = cc in absurd (omega arith)
-neither false b p = (refl, p)
 
 -- 204, of the two holders: "kind 0 with unpacked length not size minus 9, or data offset below 24 or above size"
 abbrev pub Wrong : List ℕ → ℕ → Type 0

@@ -1,7 +1,7 @@
 -- What opening depends on, and when it succeeds.
 use Prim.Native.Nat.{ℕ, zero, suc, _+_, _-_, _*_, _/_, _%_, _≤_, _<_}
 use mathlib.Core.Path.{_≡_, refl, sym, ap, ap₂, _∙_}
-use mathlib.Core.Bool.{Bool, true, false, _||_}
+use mathlib.Core.Bool.{Bool, true, false}
 use mathlib.Core.List.{List, [], _∷_}
 use mathlib.Core.Option.{Option, none, some}
 use native.Mathlib.Omega.{arith}
@@ -11,7 +11,7 @@ use lib.ListN.{length, getD, take, drop, replicate, length-take, length-drop}
 use lib.Seq.{ext-getD, getD-take, getD-drop, take-at, drop-at}
 use Rattle.common.specs.Answers.{refused, success}
 use Rattle.common.specs.Refusals.{firstRefusal, unlessRefused, any}
-use Rattle.common.proofs.Refusals.{row-passed, then-passed, then-refused, front-passed}
+use Rattle.common.proofs.Refusals.{row-passed, then-passed, then-refused, front-passed, neither}
 use Rattle.numbers.specs.LittleEndian.{le}
 use Rattle.numbers.proofs.LittleEndian.{le-same}
 use Rattle.volume.specs.Attributes.{attributesFault, baseFault}
@@ -175,10 +175,6 @@ module _ (v guid : List ℕ) (len a n : ℕ) (words : List ℕ) (base : ℕ) (h 
 
 -- ---- what opening answers is lawful
 
-or-false-left : (a b : Bool) → (a || b) ≡ false → a ≡ false
-or-false-left true b e = e
-or-false-left false b e = refl
-
 all-zeros : (k : ℕ) → allZero (replicate k 0) ≡ true
 unfolding allZero
 all-zeros zero = refl
@@ -201,7 +197,7 @@ lawful-from s st e zeros =
     let r8 = row-passed _ _ (r7 .1) in
     let r9 = row-passed _ _ (r8 .1) in
     let r10 = row-passed _ _ (r9 .1) in
-    (rw (or-false-left (hasZero (mapOf st)) _ (r6 .0), r7 .0, r8 .0, r10 .0, zeros), ltb-false (length s) (st .length) (r9 .0))
+    (rw (neither (hasZero (mapOf st)) _ (r6 .0) .0, r7 .0, r8 .0, r10 .0, zeros), ltb-false (length s) (st .length) (r9 .0))
 
 -- the state that opening answers with success keeps rule 111, and the volume is lent whole: so a service call on it gets neither 111 nor 5
 pub opened-lawful : (v : List ℕ) (base : ℕ) → openVolume v base .answer ≡ success []

@@ -42,7 +42,7 @@ module _ (c : tie.After-run-end) where
   starts = found-start _ _ _ _ _ _ (hit (c .before))
 
   ends : c .run-end .result ≡ firstByte (now (asked .args .words)) (asked .args .first + asked .args .count)
-  ends = c .run-end .ensures ∙ found-walk _ _ _ _ _ _ _ (hit (c .before))
+  ends = c .run-end .ensures ∙ found-walk _ _ _ _ _ _ (hit (c .before)) _
 
   rises : start ≤ c .run-end .result
   rises = omega (arith, ends, starts, firstByte-rises (now (asked .args .words)) (asked .args .first) (asked .args .count))
@@ -65,7 +65,7 @@ returns c =
     absurd (omega (arith, place-lost (now (entry looked .args .words)) (entry looked .args .first) (sym (looked .find-block .ensures) ∙ c .enum-told .given .1)))
 
 run-end-requires : tie.Need-run-end-requires
-run-end-requires c κs = walk-asks _ _ _ _ _ _ _ (hit c) (search needs) (search needs)
+run-end-requires c κs = walk-asks _ _ _ _ _ _ (hit c) _ (search needs) (search needs)
 
 sub-fill : tie.Need-sub-fill
 sub-fill c = omega (arith, rises c)

@@ -1,14 +1,19 @@
 -- `block_service::service::get_block_size` meets its contract.
 use mathlib.Core.Path.{_≡_, sym, _∙_}
 use mathlib.Core.Bool.{false}
+use native.Mathlib.Omega.{arith}
 use borrow.Author.Tests.{le-leb, lt-leb}
 use borrow.Author.Needs.{needs}
+use lib.ListN.{length}
+use lib.Seq.{length-take-le}
 use Rattle.common.proofs.Refusals.{row-applies, row-passes, no-row}
 use Rattle.volume.specs.State.{stateWith, mapOf, unlawful}
-use Rattle.volume.proofs.state.Lawful.{lawful, lent-bytes}
+use Rattle.volume.proofs.state.Lawful.{Lawful, lawful, lent-bytes}
 use Rattle.block_service.specs.Blocks.{place}
 use Rattle.block_service.specs.Service.{getBlockSize, blockSizeAnswer, bufferOf, refusals}
+use Rattle.block_service.specs.declared.blocks.Place.the-variants.{At}
 use Rattle.block_service.proofs.blocks.Places.{place-lost, place-found}
+use Rattle.block_service.proofs.blocks.Runs.{number-asks, found-number}
 use Rattle.block_service.proofs.service.Steps.{unlawful-step, refused-step, size-step}
 use Rattle.block_service.proofs.service.get_block_size.Statement.{statement}
 use Rattle.block_service.proofs.service.get_block_size.Tie as tie
@@ -57,14 +62,44 @@ returns-2 c =
     let lost = place-lost _ _ (sym (located scanned) ∙ c .enum-told .given .1) in
     λ v. refused-step _ v (getBlockSize _) 2 (row-passes _ _ _ _ (ok (passed scanned)) (row-applies _ _ _ (le-leb _ _ lost)))
 
+-- the block was found
+abbrev scanned : tie.After-known-told → tie.After-locate
+scanned c = c .before .before .before
+
+hit : (c : tie.After-known-told)
+    → place (mapOf (entry (passed (scanned c) .before) .args .st)) (entry (passed (scanned c) .before) .args .block)
+    ≡ At (c .before .found .given .0 .0) (c .before .found .given .0 .1 .0) (c .before .found .given .0 .1 .1 .0) (c .before .found .given .0 .1 .1 .1 .0)
+hit c = sym (located (scanned c)) ∙ c .before .found .given .1
+
+known : (c : tie.After-known-told) → Lawful (entry (passed (scanned c) .before) .args .st)
+known c = lawful _ (ok (passed (scanned c)))
+
+map-length : (c : tie.Start) → length (c .args .st .map) ≡ 64
+map-length c = search needs
+
+mul-end : tie.Need-mul-end
+mul-end c = omega (arith, known (c .before) .entries)
+
+array-share-prefix-map : tie.Need-array-share-prefix-map
+array-share-prefix-map c = let found = c .before in omega (arith, map-length (entry (passed (scanned found) .before)), known found .entries)
+
+slice-aggregate-equal-blocks : tie.Need-slice-aggregate-equal-blocks
+slice-aggregate-equal-blocks c =
+    let found = c .before .before in
+    sym (length-take-le _ _ (omega (arith, map-length (entry (passed (scanned found) .before)), known found .entries)))
+
+equal-blocks-requires : tie.Need-equal-blocks-requires
+unfolding mapOf
+equal-blocks-requires c κs = let found = c .before .before in number-asks _ _ _ _ _ _ (hit found) (known found .blocks)
+
 returns-3 : tie.Need-returns-3
-unfolding blockSizeAnswer refusals
+unfolding blockSizeAnswer refusals mapOf
 returns-3 c =
-    let scanned = c .before .before .before in
-    let k = sym (located scanned) ∙ c .before .found .given .1 in
+    let found = c .before .before .before in
     λ v.
-    size-step _ v _ _ _ _ _
-    (row-passes _ _ _ _ (ok (passed scanned)) (row-passes _ _ _ _ (lt-leb _ _ (place-found _ _ _ _ _ _ k)) no-row)) k
+    size-step _ v _ _ _ _ _ _
+    (row-passes _ _ _ _ (ok (passed (scanned found))) (row-passes _ _ _ _ (lt-leb _ _ (place-found _ _ _ _ _ _ (hit found))) no-row))
+    (hit found) (c .equal-blocks .ensures ∙ found-number _ _ _ _ _ _ (hit found))
 
 pub get-block-size-spec : {M : Type 1} → statement M
 get-block-size-spec =
@@ -76,4 +111,8 @@ get-block-size-spec =
     enum-known-found
     enum-told
     returns-2
+    mul-end
+    array-share-prefix-map
+    slice-aggregate-equal-blocks
+    equal-blocks-requires
     returns-3)
