@@ -25,7 +25,6 @@ use Rattle.block_service.specs.Settings.{changesFixed, lacksCapability}
 use Rattle.block_service.specs.declared.blocks.Place.the-variants.{At}
 use Rattle.block_service.proofs.access.Moves as Moves
 use Rattle.block_service.proofs.blocks.Places as Places
-use Rattle.block_service.proofs.blocks.Runs as Runs
 use Rattle.block_service.proofs.settings.Rules as Rules
 use Rattle.block_service.proofs.service.Erasing as Erasing
 use Rattle.block_service.proofs.service.Kept as Kept
@@ -123,7 +122,7 @@ settings-read = Steps.settings-read
 
 -- the size of a block that is there is answered: its length, and its number of consecutive blocks
 pub size-answered : (st : State) (v : List ℕ) (b : ℕ) → unlawful st ≡ false → b < blocks (mapOf st)
-    → (l : ℕ) × HasLength (mapOf st) b l × (step st v (getBlockSize b) ≡ result (success (l ∷ numberOfBlocks (mapOf st) b ∷ [])) st v [])
+    → (l : ℕ) × HasLength (place (mapOf st) b) l × (step st v (getBlockSize b) ≡ result (success (l ∷ numberOfBlocks (mapOf st) b ∷ [])) st v [])
 size-answered = Sizes.size-answered
 
 -- "the base address uses 111, then 3"
@@ -175,30 +174,35 @@ pub entry-settles : (m rest : List ℕ) (b : ℕ) → b < blocks m → place (m 
 entry-settles = Places.entry-settles
 
 -- "Block size answers the length": a block that it answers for is there, with that length
-pub size-length : (st : State) (v : List ℕ) (b l n : ℕ) → step st v (getBlockSize b) .answer ≡ success (l ∷ n ∷ []) → HasLength (mapOf st) b l
+pub size-length : (st : State) (v : List ℕ) (b l n : ℕ) → step st v (getBlockSize b) .answer ≡ success (l ∷ n ∷ []) → HasLength (place (mapOf st) b) l
 size-length = Sizes.size-length
 
 -- and "the number of consecutive blocks, starting with Lba .. All blocks in this range have a size of BlockSize" (000): each of the n blocks from b on
 -- has length l
 pub size-alike : (st : State) (v : List ℕ) (b l n : ℕ) → step st v (getBlockSize b) .answer ≡ success (l ∷ n ∷ [])
-    → (k : ℕ) → k < n → HasLength (mapOf st) (b + k) l
+    → (k : ℕ) → k < n → HasLength (place (mapOf st) (b + k)) l
 size-alike = Sizes.size-alike
 
 -- the block after them, if there is one, has another length
 pub size-ends : (st : State) (v : List ℕ) (b l n : ℕ) → step st v (getBlockSize b) .answer ≡ success (l ∷ n ∷ [])
-    → (l' : ℕ) → HasLength (mapOf st) (b + n) l' → l' ≡ l → ⊥
+    → (l' : ℕ) → HasLength (place (mapOf st) (b + n)) l' → l' ≡ l → ⊥
 size-ends = Sizes.size-ends
 
 -- and no other number is so: the two say all of it
 pub size-only : (st : State) (v : List ℕ) (b l n : ℕ) → step st v (getBlockSize b) .answer ≡ success (l ∷ n ∷ [])
-    → (k : ℕ) → ((i : ℕ) → i < k → HasLength (mapOf st) (b + i) l) → (HasLength (mapOf st) (b + k) l → ⊥) → k ≡ n
+    → (k : ℕ) → ((i : ℕ) → i < k → HasLength (place (mapOf st) (b + i)) l) → (HasLength (place (mapOf st) (b + k)) l → ⊥) → k ≡ n
 size-only = Sizes.size-only
+
+-- the block asked is one of them
+pub size-itself : (st : State) (v : List ℕ) (b l n : ℕ) → step st v (getBlockSize b) .answer ≡ success (l ∷ n ∷ []) → 0 < n
+size-itself = Sizes.size-itself
 
 -- where no two neighbouring entries have the same length, the number is 01's: "the number of blocks from the one asked to the end of its map entry,
 -- itself included", r
-pub number-in-entry : (m : List ℕ) (b e s l r : ℕ) → place m b ≡ At e s l r
-    → ((i : ℕ) → 2 * (i + 1) + 1 < length m → getD m (2 * i + 1) 0 ≡ getD m (2 * (i + 1) + 1) 0 → ⊥) → numberOfBlocks m b ≡ r
-number-in-entry = Runs.number-in-entry
+pub size-in-entry : (st : State) (v : List ℕ) (b l n : ℕ) → step st v (getBlockSize b) .answer ≡ success (l ∷ n ∷ [])
+    → (e s r : ℕ) → place (mapOf st) b ≡ At e s l r
+    → ((i : ℕ) → 2 * (i + 1) + 1 < length (mapOf st) → getD (mapOf st) (2 * i + 1) 0 ≡ getD (mapOf st) (2 * (i + 1) + 1) 0 → ⊥) → n ≡ r
+size-in-entry = Sizes.size-in-entry
 
 -- ---- read and write, of a block that starts at byte s and has length l
 

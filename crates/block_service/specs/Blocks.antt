@@ -21,9 +21,9 @@ placeFrom (count ∷ len ∷ rest) e s b =
 unfoldable pub place : List ℕ → ℕ → Place
 place map b = placeFrom map 0 0 b
 
--- block b is there, and its length is l
-abbrev pub HasLength : List ℕ → ℕ → ℕ → Type 0
-HasLength map b l = (e : ℕ) × (s : ℕ) × (r : ℕ) × (place map b ≡ At e s l r)
+-- the place is that of a block of length l
+abbrev pub HasLength : Place → ℕ → Type 0
+HasLength p l = (e : ℕ) × (s : ℕ) × (r : ℕ) × (p ≡ At e s l r)
 
 -- a place's first byte and length; 0 where there is no such block
 unfoldable pub startOf : Place → ℕ

@@ -12,6 +12,7 @@ use Rattle.common.proofs.Lists.{drop-two}
 use Rattle.common.proofs.Refusals.{neither}
 use Rattle.volume.specs.BlockMap.{blocks, bytes, hasZero, maxLength, maxBlocks}
 use Rattle.block_service.specs.Blocks.{placeFrom, place, HasLength, equalBlocks, numberOfBlocks, firstByte}
+use Rattle.block_service.specs.declared.blocks.Place.{Place}
 use Rattle.block_service.specs.declared.blocks.Place.the-variants.{At, Missing}
 use Rattle.volume.proofs.block_map.Words.{blocks-entry, bytes-entry}
 use Rattle.block_service.proofs.blocks.Places.{firstByte-zero, firstByte-here, firstByte-past, firstByte-le}
@@ -24,6 +25,13 @@ place-here c l rest e s b h = rw (lt-ltb b c h)
 place-past : (c l : ℕ) (rest : List ℕ) (e s b : ℕ) → c ≤ b → placeFrom (c ∷ l ∷ rest) e s b ≡ placeFrom rest (e + 1) (s + c * l) (b - c)
 unfolding placeFrom
 place-past c l rest e s b h = rw (le-ltb b c h)
+
+-- what is known of a place's length
+pub as-long : (p : Place) (l len : ℕ) → l ≡ len → HasLength p l → HasLength p len
+as-long p l len q h = (h .0, h .1, h .2, h .3 ∙ ap (λ (j : ℕ). At (h .0) (h .1) j (h .2)) q)
+
+same-place : (p q : Place) (l : ℕ) → p ≡ q → HasLength q l → HasLength p l
+same-place p q l e h = (h .0, h .1, h .2, e ∙ h .3)
 
 -- the words of an entry, and of those after it, where no word is 0
 entry-nonzero : (c l : ℕ) (rest : List ℕ) → hasZero (c ∷ l ∷ rest) ≡ false → (0 < c) × (hasZero rest ≡ false)
@@ -76,20 +84,17 @@ equal-le (c ∷ l ∷ rest) len = go (eqb l len) (equal-le rest len)
     go false ih = omega arith
 
 -- all of them have that length
-equal-places : (m : List ℕ) (len e s k : ℕ) → k < equalBlocks m len → (e' : ℕ) × (s' : ℕ) × (r' : ℕ) × (placeFrom m e s k ≡ At e' s' len r')
+equal-places : (m : List ℕ) (len e s k : ℕ) → k < equalBlocks m len → HasLength (placeFrom m e s k) len
 unfolding equalBlocks
 equal-places [] len e s k h = absurd (omega arith)
 equal-places (c ∷ []) len e s k h = absurd (omega arith)
 equal-places (c ∷ l ∷ rest) len e s k h = go (eqb l len) refl (ltb k c) refl (equal-places rest len (e + 1) (s + c * l) (k - c)) h
   where
     go : (t : Bool) → eqb l len ≡ t → (u : Bool) → ltb k c ≡ u
-        → (k - c < equalBlocks rest len → (e' : ℕ) × (s' : ℕ) × (r' : ℕ) × (placeFrom rest (e + 1) (s + c * l) (k - c) ≡ At e' s' len r'))
-        → k < cond t (c + equalBlocks rest len) 0 → (e' : ℕ) × (s' : ℕ) × (r' : ℕ) × (placeFrom (c ∷ l ∷ rest) e s k ≡ At e' s' len r')
-    go true q true w ih h = (e, s + k * l, c - k, place-here c l rest e s k (ltb-true _ _ w) ∙ ap (λ (j : ℕ). At e (s + k * l) j (c - k)) (eqb-true l len q))
-    go true q false w ih h =
-        let p : c ≤ k = ltb-false _ _ w in
-        let i = ih (omega arith) in
-        (i .0, i .1, i .2, place-past c l rest e s k p ∙ i .3)
+        → (k - c < equalBlocks rest len → HasLength (placeFrom rest (e + 1) (s + c * l) (k - c)) len)
+        → k < cond t (c + equalBlocks rest len) 0 → HasLength (placeFrom (c ∷ l ∷ rest) e s k) len
+    go true q true w ih h = as-long _ l len (eqb-true l len q) (e, s + k * l, c - k, place-here c l rest e s k (ltb-true _ _ w))
+    go true q false w ih h = same-place _ _ _ (place-past c l rest e s k (ltb-false _ _ w)) (ih (omega (arith, ltb-false k c w)))
     go false q u w ih h = absurd (omega arith)
 
 -- and where no word is 0 the block after them, if there is one, has another length
@@ -119,24 +124,22 @@ unfolding numberOfBlocks
 number-past c l rest b h = rw (le-ltb b c h)
 
 -- so many blocks from b on have b's length
-run-places : (m : List ℕ) (e s b e' s' l' r' k : ℕ) → placeFrom m e s b ≡ At e' s' l' r' → k < numberOfBlocks m b
-    → (e'' : ℕ) × (s'' : ℕ) × (r'' : ℕ) × (placeFrom m e s (b + k) ≡ At e'' s'' l' r'')
+run-places : (m : List ℕ) (e s b e' s' l' r' k : ℕ) → placeFrom m e s b ≡ At e' s' l' r' → k < numberOfBlocks m b → HasLength (placeFrom m e s (b + k)) l'
 run-places m e s b e' s' l' r' k h p = go (found m e s b e' s' l' r' h) p
   where
-    go : {m : List ℕ} {e s b : ℕ} → Found e' s' l' r' m e s b → k < numberOfBlocks m b
-        → (e'' : ℕ) × (s'' : ℕ) × (r'' : ℕ) × (placeFrom m e s (b + k) ≡ At e'' s'' l' r'')
+    go : {m : List ℕ} {e s b : ℕ} → Found e' s' l' r' m e s b → k < numberOfBlocks m b → HasLength (placeFrom m e s (b + k)) l'
     go (here c l rest e s b w a1 a2 a3 a4) p = near (ltb (b + k) c) refl
       where
-        near : (t : Bool) → ltb (b + k) c ≡ t → (e'' : ℕ) × (s'' : ℕ) × (r'' : ℕ) × (placeFrom (c ∷ l ∷ rest) e s (b + k) ≡ At e'' s'' l' r'')
-        near true q = (e, s + (b + k) * l, c - (b + k), place-here c l rest e s (b + k) (ltb-true _ _ q) ∙ ap (λ (j : ℕ). At e (s + (b + k) * l) j (c - (b + k))) a3)
+        near : (t : Bool) → ltb (b + k) c ≡ t → HasLength (placeFrom (c ∷ l ∷ rest) e s (b + k)) l'
+        near true q = as-long _ l l' a3 (e, s + (b + k) * l, c - (b + k), place-here c l rest e s (b + k) (ltb-true _ _ q))
         near false q =
             let n = rw (number-here c l rest b w) at p in
-            let i = equal-places rest l (e + 1) (s + c * l) (b + k - c) (omega (arith, ltb-false (b + k) c q)) in
-            (i .0, i .1, i .2, place-past c l rest e s (b + k) (ltb-false _ _ q) ∙ i .3 ∙ ap (λ (j : ℕ). At (i .0) (i .1) j (i .2)) a3)
+            as-long _ _ _ a3
+            (same-place _ _ _ (place-past c l rest e s (b + k) (ltb-false _ _ q))
+            (equal-places rest l (e + 1) (s + c * l) (b + k - c) (omega (arith, ltb-false (b + k) c q))))
     go (later c l rest e s b w f) p =
         let z : b + k - c ≡ b - c + k = omega arith in
-        let i = go f (rw (number-past c l rest b w) at p) in
-        (i .0, i .1, i .2, place-past c l rest e s (b + k) (omega arith) ∙ rw z (i .3))
+        same-place _ _ _ (place-past c l rest e s (b + k) (omega arith) ∙ rw z) (go f (rw (number-past c l rest b w) at p))
 
 -- and where no word is 0 the block after them, if there is one, has another length
 run-ends : (m : List ℕ) (e s b e' s' l' r' e'' s'' l'' r'' : ℕ) → hasZero m ≡ false
@@ -322,12 +325,12 @@ module _ (m : List ℕ) (b e s l r : ℕ) (h : place m b ≡ At e s l r) where
   number-asks p = (found-entry .0, omega (arith, found-blocks))
 
   -- each of a block's consecutive blocks has its length
-  pub number-alike : (k : ℕ) → k < numberOfBlocks m b → HasLength m (b + k) l
+  pub number-alike : (k : ℕ) → k < numberOfBlocks m b → HasLength (place m (b + k)) l
   unfolding place
   number-alike k p = run-places m 0 0 b e s l r k h p
 
   -- the block after them, if there is one, another
-  pub number-ends : hasZero m ≡ false → (l' : ℕ) → HasLength m (b + numberOfBlocks m b) l' → l' ≡ l → ⊥
+  pub number-ends : hasZero m ≡ false → (l' : ℕ) → HasLength (place m (b + numberOfBlocks m b)) l' → l' ≡ l → ⊥
   unfolding place
   number-ends n l' p = run-ends m 0 0 b e s l r (p .0) (p .1) l' (p .2) n h (p .3)
 

@@ -1,11 +1,12 @@
 -- What block size answers, and that the blocks share out a volume's bytes.
-use Prim.Native.Nat.{ℕ, _+_, _<_}
+use Prim.Native.Nat.{ℕ, _+_, _*_, _<_}
 use mathlib.Core.Bool.{Bool, true, false}
 use mathlib.Core.List.{List, [], _∷_}
 use mathlib.Core.Path.{_≡_, refl, sym, ap, _∙_}
 use native.Mathlib.Omega.{arith}
 use borrow.Author.Tests.{leb-false, lt-leb, ltb-true, ltb-false}
 use lib.Dec.{T, leb, ltb}
+use lib.ListN.{length, getD}
 use Rattle.common.specs.Answers.{success}
 use Rattle.common.specs.Refusals.{row}
 use Rattle.common.proofs.Refusals.{row-passed, row-passes, no-row}
@@ -18,7 +19,7 @@ use Rattle.block_service.specs.Service.{getBlockSize, refusals, effect, 
 use Rattle.block_service.specs.Service.{result, perform, step}
 use Rattle.block_service.specs.declared.blocks.Place.the-variants.{At}
 use Rattle.block_service.proofs.blocks.Places.{in-some-block, place-there, in-one-block}
-use Rattle.block_service.proofs.blocks.Runs.{number-alike, number-ends}
+use Rattle.block_service.proofs.blocks.Runs.{as-long, number-alike, number-ends, number-in-entry}
 use Rattle.block_service.proofs.service.Steps.{allowed-step, passed-success, size-step}
 
 -- every byte below a lawful state's length lies in exactly one block
@@ -42,29 +43,29 @@ module _ (st : State) (v : List ℕ) (b l n : ℕ) (h : step st v (getBlockSize 
   answered = ap (λ (x : Result). x .answer) (allowed-step st v (getBlockSize b) (passed-success st v (getBlockSize b) (l ∷ n ∷ []) h)) ∙ h
 
   -- the block is there, with that length, and the number is that of its consecutive blocks
-  pub size-length : HasLength (mapOf st) b l
+  pub size-length : HasLength (place (mapOf st) b) l
   unfolding lengthOf
   size-length =
       let p = place-there (mapOf st) b (passed .1) in
       let q = rw (p .4) at answered in
       let a : p .2 ≡ l = cc in
-      (p .0, p .1, p .3, p .4 ∙ ap (λ (j : ℕ). At (p .0) (p .1) j (p .3)) a)
+      as-long _ _ l a (p .0, p .1, p .3, p .4)
 
-  pub size-number : numberOfBlocks (mapOf st) b ≡ n
+  size-number : numberOfBlocks (mapOf st) b ≡ n
   size-number = let q = answered in cc
 
   -- so many blocks from b on have its length
-  pub size-alike : (k : ℕ) → k < n → HasLength (mapOf st) (b + k) l
+  pub size-alike : (k : ℕ) → k < n → HasLength (place (mapOf st) (b + k)) l
   size-alike k p = let f = size-length in number-alike (mapOf st) b (f .0) (f .1) l (f .2) (f .3) k (omega (arith, size-number))
 
   -- the block after them, if there is one, has another
-  pub size-ends : (l' : ℕ) → HasLength (mapOf st) (b + n) l' → l' ≡ l → ⊥
+  pub size-ends : (l' : ℕ) → HasLength (place (mapOf st) (b + n)) l' → l' ≡ l → ⊥
   size-ends l' p =
       let f = size-length in
       number-ends (mapOf st) b (f .0) (f .1) l (f .2) (f .3) (lawful st (passed .0) .nonzero) l' (rw (sym size-number) at p)
 
   -- and that is true of no other number
-  pub size-only : (k : ℕ) → ((i : ℕ) → i < k → HasLength (mapOf st) (b + i) l) → (HasLength (mapOf st) (b + k) l → ⊥) → k ≡ n
+  pub size-only : (k : ℕ) → ((i : ℕ) → i < k → HasLength (place (mapOf st) (b + i)) l) → (HasLength (place (mapOf st) (b + k)) l → ⊥) → k ≡ n
   size-only k alike ends = go (ltb k n) refl (ltb n k) refl
     where
       go : (t : Bool) → ltb k n ≡ t → (u : Bool) → ltb n k ≡ u → k ≡ n
@@ -72,9 +73,24 @@ module _ (st : State) (v : List ℕ) (b l n : ℕ) (h : step st v (getBlockSize 
       go false q true w = absurd (size-ends l (alike n (ltb-true _ _ w)) refl)
       go false q false w = omega (arith, ltb-false k n q, ltb-false n k w)
 
+  -- the block itself is one of them
+  pub size-itself : 0 < n
+  size-itself = go (ltb 0 n) refl
+    where
+      go : (t : Bool) → ltb 0 n ≡ t → 0 < n
+      go true q = ltb-true _ _ q
+      go false q =
+          let z : b ≡ b + n = omega (arith, ltb-false 0 n q) in
+          absurd (size-ends l (rw z at size-length) refl)
+
+  -- where no two neighbouring entries have the same length, the number is that of the blocks to the entry's end
+  pub size-in-entry : (e s r : ℕ) → place (mapOf st) b ≡ At e s l r
+      → ((i : ℕ) → 2 * (i + 1) + 1 < length (mapOf st) → getD (mapOf st) (2 * i + 1) 0 ≡ getD (mapOf st) (2 * (i + 1) + 1) 0 → ⊥) → n ≡ r
+  size-in-entry e s r p d = sym size-number ∙ number-in-entry (mapOf st) b e s l r p d
+
 -- it answers for every block that is there, in a lawful state
 pub size-answered : (st : State) (v : List ℕ) (b : ℕ) → unlawful st ≡ false → b < blocks (mapOf st)
-    → (l : ℕ) × HasLength (mapOf st) b l × (step st v (getBlockSize b) ≡ result (success (l ∷ numberOfBlocks (mapOf st) b ∷ [])) st v [])
+    → (l : ℕ) × HasLength (place (mapOf st) b) l × (step st v (getBlockSize b) ≡ result (success (l ∷ numberOfBlocks (mapOf st) b ∷ [])) st v [])
 unfolding refusals
 size-answered st v b ok h =
     let pass = row-passes _ _ _ _ ok (row-passes _ _ _ _ (lt-leb _ _ h) no-row) in
