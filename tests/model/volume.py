@@ -1,5 +1,5 @@
-"""Firmware volumes, as the scope document describes them: opening, header
-writing and the seven calls of the block service.
+"""Firmware volumes, as the scope document describes them, with request b of
+02: opening, header writing and the seven calls of the block service.
 
 Every function answers (number, values...): 0 for success, 4 for short, else
 the refusal number. Lent bytes are bytearrays and are changed in place.
