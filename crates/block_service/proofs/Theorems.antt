@@ -1,4 +1,4 @@
--- What a reader of document 01 may want to know of the block service, beyond the contracts of src/: each theorem with 01's words, in 01's order.
+-- What a reader of document 01 may want to know of the block service, beyond the contracts of src/: each theorem with the document's words, in 01's order.
 -- `step st v c` is the call c on the state st and the lent volume v; its result has the answer, and the state, the volume and the reader's buffer
 -- afterwards. The proofs are citations; the laws stand under the module of src/ that they serve.
 use Prim.Native.Nat.{ℕ, _+_, _-_, _*_, _/_, _%_, _^_, _≤_, _<_}
@@ -17,7 +17,7 @@ use Rattle.volume.specs.BlockMap.{blocks}
 use Rattle.volume.specs.State.{mapOf, unlawful}
 use Rattle.volume.specs.declared.state.State.{State}
 use Rattle.block_service.specs.Access.{countMoved, writtenByte, erasedByte, changedByte, writeChange}
-use Rattle.block_service.specs.Blocks.{place, HasLength, numberOfBlocks, inBlock}
+use Rattle.block_service.specs.Blocks.{place, HasLength, startOf, consecutiveBlocks, inBlock}
 use Rattle.block_service.specs.Erase.{endOfList, goodList, names, eraseChange}
 use Rattle.block_service.specs.Service.{Call, getAttributes, getPhysicalAddress, setAttributes, getBlockSize, read, write, eraseBlocks}
 use Rattle.block_service.specs.Service.{refusals, moveAnswer, withAttributes, result, bufferOf, step}
@@ -25,6 +25,7 @@ use Rattle.block_service.specs.Settings.{changesFixed, lacksCapability}
 use Rattle.block_service.specs.declared.blocks.Place.the-variants.{At}
 use Rattle.block_service.proofs.access.Moves as Moves
 use Rattle.block_service.proofs.blocks.Places as Places
+use Rattle.block_service.proofs.blocks.Runs as Runs
 use Rattle.block_service.proofs.settings.Rules as Rules
 use Rattle.block_service.proofs.service.Erasing as Erasing
 use Rattle.block_service.proofs.service.Kept as Kept
@@ -120,9 +121,9 @@ erase-allowed = Erasing.erase-allowed
 pub settings-read : (st : State) (v : List ℕ) → unlawful st ≡ false → step st v getAttributes ≡ result (success (st .attributes ∷ [])) st v []
 settings-read = Steps.settings-read
 
--- the size of a block that is there is answered: its length, and its number of consecutive blocks
+-- the size of a block that is there is answered: its length, and the number of consecutive blocks of that length from it on
 pub size-answered : (st : State) (v : List ℕ) (b : ℕ) → unlawful st ≡ false → b < blocks (mapOf st)
-    → (l : ℕ) × HasLength (place (mapOf st) b) l × (step st v (getBlockSize b) ≡ result (success (l ∷ numberOfBlocks (mapOf st) b ∷ [])) st v [])
+    → (l : ℕ) × HasLength (place (mapOf st) b) l × (step st v (getBlockSize b) ≡ result (success (l ∷ consecutiveBlocks (mapOf st) b ∷ [])) st v [])
 size-answered = Sizes.size-answered
 
 -- "the base address uses 111, then 3"
@@ -177,18 +178,23 @@ entry-settles = Places.entry-settles
 pub size-length : (st : State) (v : List ℕ) (b l n : ℕ) → step st v (getBlockSize b) .answer ≡ success (l ∷ n ∷ []) → HasLength (place (mapOf st) b) l
 size-length = Sizes.size-length
 
--- and "the number of consecutive blocks, starting with Lba .. All blocks in this range have a size of BlockSize" (000): each of the n blocks from b on
--- has length l
+-- "the number of consecutive blocks, starting with Lba, is returned. All blocks in this range have a size of BlockSize" (000): each of the n blocks
+-- from b on has length l
 pub size-alike : (st : State) (v : List ℕ) (b l n : ℕ) → step st v (getBlockSize b) .answer ≡ success (l ∷ n ∷ [])
     → (k : ℕ) → k < n → HasLength (place (mapOf st) (b + k)) l
 size-alike = Sizes.size-alike
 
--- the block after them, if there is one, has another length
+-- they lie one after the other
+pub size-starts : (st : State) (v : List ℕ) (b l n : ℕ) → step st v (getBlockSize b) .answer ≡ success (l ∷ n ∷ [])
+    → (k : ℕ) → k < n → startOf (place (mapOf st) (b + k)) ≡ startOf (place (mapOf st) b) + k * l
+size-starts = Sizes.size-starts
+
+-- "while the length stays equal" (02, b): the block after them, if there is one, has another length
 pub size-ends : (st : State) (v : List ℕ) (b l n : ℕ) → step st v (getBlockSize b) .answer ≡ success (l ∷ n ∷ [])
-    → (l' : ℕ) → HasLength (place (mapOf st) (b + n)) l' → l' ≡ l → ⊥
+    → HasLength (place (mapOf st) (b + n)) l → ⊥
 size-ends = Sizes.size-ends
 
--- and no other number is so: the two say all of it
+-- and n is the only number of which both are true
 pub size-only : (st : State) (v : List ℕ) (b l n : ℕ) → step st v (getBlockSize b) .answer ≡ success (l ∷ n ∷ [])
     → (k : ℕ) → ((i : ℕ) → i < k → HasLength (place (mapOf st) (b + i)) l) → (HasLength (place (mapOf st) (b + k)) l → ⊥) → k ≡ n
 size-only = Sizes.size-only
@@ -198,11 +204,15 @@ pub size-itself : (st : State) (v : List ℕ) (b l n : ℕ) → step st v (getBl
 size-itself = Sizes.size-itself
 
 -- where no two neighbouring entries have the same length, the number is 01's: "the number of blocks from the one asked to the end of its map entry,
--- itself included", r
+-- itself included"
 pub size-in-entry : (st : State) (v : List ℕ) (b l n : ℕ) → step st v (getBlockSize b) .answer ≡ success (l ∷ n ∷ [])
     → (e s r : ℕ) → place (mapOf st) b ≡ At e s l r
     → ((i : ℕ) → 2 * (i + 1) + 1 < length (mapOf st) → getD (mapOf st) (2 * i + 1) 0 ≡ getD (mapOf st) (2 * (i + 1) + 1) 0 → ⊥) → n ≡ r
 size-in-entry = Sizes.size-in-entry
+
+-- which is r: the blocks before block b and those r are all blocks of the entries up to its own, number e
+pub entry-left : (m : List ℕ) (b e s l r : ℕ) → place m b ≡ At e s l r → b + r ≡ blocks (take (2 * (e + 1)) m)
+entry-left = Runs.entry-left
 
 -- ---- read and write, of a block that starts at byte s and has length l
 

@@ -21,7 +21,7 @@ placeFrom (count ∷ len ∷ rest) e s b =
 unfoldable pub place : List ℕ → ℕ → Place
 place map b = placeFrom map 0 0 b
 
--- the place is that of a block of length l
+-- for the theorems: the place is that of a block of length l
 abbrev pub HasLength : Place → ℕ → Type 0
 HasLength p l = (e : ℕ) × (s : ℕ) × (r : ℕ) × (p ≡ At e s l r)
 
@@ -43,13 +43,13 @@ equalBlocks (count ∷ l ∷ rest) len =
     cond (eqb l len) (count + later) 0
 
 -- GetBlockSize's NumberOfBlocks (document 000): "the number of consecutive blocks, starting with Lba, is returned. All blocks in this range have a
--- size of BlockSize." From block b to the end of its entry, and on through the entries after it up to the first of another length (document 02, b);
--- 0 where there is no such block
-unfoldable pub numberOfBlocks : List ℕ → ℕ → ℕ
-numberOfBlocks [] b = 0
-numberOfBlocks (count ∷ []) b = 0
-numberOfBlocks (count ∷ len ∷ rest) b =
-    let later = numberOfBlocks rest (b - count) in
+-- size of BlockSize." "Let the run go on through following entries while the length stays equal" (document 02, b): the blocks from block b to the
+-- end of its entry, and those of the entries after it up to the first of another length; 0 where there is no such block
+unfoldable pub consecutiveBlocks : List ℕ → ℕ → ℕ
+consecutiveBlocks [] b = 0
+consecutiveBlocks (count ∷ []) b = 0
+consecutiveBlocks (count ∷ len ∷ rest) b =
+    let later = consecutiveBlocks rest (b - count) in
     cond (ltb b count) (count - b + equalBlocks rest len) later
 
 -- byte i lies in the place

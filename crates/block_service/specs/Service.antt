@@ -15,7 +15,7 @@ use Rattle.volume.specs.BlockMap.{blocks}
 use Rattle.volume.specs.State.{stateWith, mapOf, unlawful}
 use Rattle.volume.specs.declared.state.State.{State}
 use Rattle.block_service.specs.Access.{countMoved, ByteChange, changedByte, writeChange}
-use Rattle.block_service.specs.Blocks.{place, startOf, lengthOf, numberOfBlocks}
+use Rattle.block_service.specs.Blocks.{place, startOf, lengthOf, consecutiveBlocks}
 use Rattle.block_service.specs.Erase.{goodList, eraseChange}
 use Rattle.block_service.specs.Settings.{settingRefusals}
 use Rattle.block_service.specs.declared.service.Settings
@@ -98,7 +98,7 @@ unfoldable pub effect : State → Call → Effect
 effect st getAttributes = reply (success (st .attributes ∷ []))
 effect st (setAttributes new) = setTo (withAttributes st new) (success (new ∷ []))
 effect st getPhysicalAddress = reply (success (st .base ∷ []))
-effect st (getBlockSize block) = reply (success (lengthOf (place (mapOf st) block) ∷ numberOfBlocks (mapOf st) block ∷ []))
+effect st (getBlockSize block) = reply (success (lengthOf (place (mapOf st) block) ∷ consecutiveBlocks (mapOf st) block ∷ []))
 effect st (read block offset buffer) =
     let found = place (mapOf st) block in
     let count = countMoved (lengthOf found) offset (length buffer) in

@@ -76,15 +76,15 @@ pub(crate) fn block_count(words: &[u32]) -> usize
     count
 }
 
-// The number of consecutive blocks of length `len` from one on of which `left` blocks of its entry are left: those, and
-// the blocks of the entries after it up to the first of another length.
-pub(crate) fn equal_blocks(words: &[u32], entry: usize, len: usize, left: usize) -> usize
+// The number of blocks of this length with which the entries after an entry begin: those of the entries before the first
+// of another length.
+pub(crate) fn equal_blocks(words: &[u32], entry: usize, len: usize) -> usize
     requires { ⌜ 2 * entry + 1 < length (now words) ⌝ }
-    requires { ⌜ left + blocks (drop (2 * (entry + 1)) (now words)) ≤ maxBlocks ⌝ }
-    ensures { λ r. ⌜ r ≡ left + equalBlocks (drop (2 * (entry + 1)) (now (words .entry))) len ⌝ }
+    requires { ⌜ blocks (now words) ≤ maxBlocks ⌝ }
+    ensures { λ r. ⌜ r ≡ equalBlocks (drop (2 * (entry + 1)) (now (words .entry))) len ⌝ }
 {
     let entries = words.len() / 2;
-    let mut count = left;
+    let mut count: usize = 0;
     let mut i = entry + 1;
     while i < entries {
         if wide(words[2 * i + 1]) as usize != len {

@@ -153,7 +153,7 @@ pub fn get_block_size(st: State, block: u64) -> BlockSize
         return BlockSize::Refused(2);
     };
     let end = 2 * st.entries;
-    let count = equal_blocks(&map[..end], entry, len, left);
+    let count = left + equal_blocks(&map[..end], entry, len);
     BlockSize::Success { length: len, count }
 }
 

@@ -16,7 +16,7 @@ use Rattle.numbers.specs.LittleEndian.{le}
 use Rattle.block_service.specs.Access.{countMoved, writtenByte, erasedByte, writeChange, changedByte}
 use Rattle.volume.specs.Attributes.{attributesFault, baseFault}
 use Rattle.volume.specs.BlockMap.{blocks, bytes, hasZero, allZero, sizeFault}
-use Rattle.block_service.specs.Blocks.{inBlock, holds, place, placeFrom, startOf, lengthOf, equalBlocks, numberOfBlocks, blockAt}
+use Rattle.block_service.specs.Blocks.{inBlock, holds, place, placeFrom, startOf, lengthOf, blockAt}
 use Rattle.block_service.specs.Erase.{endOfList, goodList, names, eraseChange}
 use Rattle.volume.specs.Header.{opened, openVolume, stateAt, wordsAt, wordSum, openRefusals, headerLengthFault, mapFault}
 use Rattle.block_service.specs.Service.{refusals, lentRefusals, moveAnswer, effect, decide, withAttributes, perform, bufferOf, Call, setAttributes, read, eraseBlocks, step}
@@ -67,7 +67,7 @@ unfolding attributesFault baseFault blocks bytes hasZero allZero sizeFault mapOf
 judging = tt
 
 moving : Unit {0}
-unfolding place placeFrom startOf lengthOf equalBlocks numberOfBlocks holds inBlock blockAt countMoved writtenByte goodList names erasedByte writeChange eraseChange changedByte edit
+unfolding place placeFrom startOf lengthOf holds inBlock blockAt countMoved writtenByte goodList names erasedByte writeChange eraseChange changedByte edit
 moving = tt
 
 calling : Unit {0}

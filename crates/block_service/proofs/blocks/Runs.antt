@@ -1,5 +1,5 @@
 -- Runs of blocks: the blocks of one length from a block on, and where a run of blocks ends, for the walk over the entries that an erase makes.
-use Prim.Native.Nat.{ℕ, suc, _+_, _-_, _*_, _≤_, _<_, min}
+use Prim.Native.Nat.{ℕ, zero, suc, _+_, _-_, _*_, _≤_, _<_, min}
 use mathlib.Core.Path.{_≡_, refl, sym, ap, _∙_}
 use mathlib.Core.Bool.{Bool, true, false, cond}
 use mathlib.Core.List.{List, [], _∷_}
@@ -7,11 +7,11 @@ use native.Mathlib.Nat.{add-assoc, zero-add, mul-le-mul-right, add-mul, sub-zero
 use native.Mathlib.Omega.{arith}
 use borrow.Author.Tests.{lt-ltb, le-ltb, ltb-true, ltb-false, eq-eqb, ne-eqb, eqb-true, eqb-false}
 use lib.Dec.{eqb, ltb}
-use lib.ListN.{length, getD, drop, length-drop}
+use lib.ListN.{length, getD, take, drop, length-drop}
 use Rattle.common.proofs.Lists.{drop-two}
 use Rattle.common.proofs.Refusals.{neither}
 use Rattle.volume.specs.BlockMap.{blocks, bytes, hasZero, maxLength, maxBlocks}
-use Rattle.block_service.specs.Blocks.{placeFrom, place, HasLength, equalBlocks, numberOfBlocks, firstByte}
+use Rattle.block_service.specs.Blocks.{placeFrom, place, HasLength, equalBlocks, consecutiveBlocks, firstByte}
 use Rattle.block_service.specs.declared.blocks.Place.{Place}
 use Rattle.block_service.specs.declared.blocks.Place.the-variants.{At, Missing}
 use Rattle.volume.proofs.block_map.Words.{blocks-entry, bytes-entry}
@@ -73,7 +73,7 @@ unfolding equalBlocks
 equal-other c l rest len h = rw (ne-eqb l len h)
 
 -- they are no more than all blocks
-pub equal-le : (m : List ℕ) (len : ℕ) → equalBlocks m len ≤ blocks m
+equal-le : (m : List ℕ) (len : ℕ) → equalBlocks m len ≤ blocks m
 unfolding equalBlocks blocks
 equal-le [] len = omega arith
 equal-le (c ∷ []) len = omega arith
@@ -97,37 +97,37 @@ equal-places (c ∷ l ∷ rest) len e s k h = go (eqb l len) refl (ltb k c) refl
     go true q false w ih h = same-place _ _ _ (place-past c l rest e s k (ltb-false _ _ w)) (ih (omega (arith, ltb-false k c w)))
     go false q u w ih h = absurd (omega arith)
 
--- and where no word is 0 the block after them, if there is one, has another length
-equal-ends : (m : List ℕ) (len e s e' s' l' r' : ℕ) → hasZero m ≡ false → placeFrom m e s (equalBlocks m len) ≡ At e' s' l' r' → l' ≡ len → ⊥
+-- and where no word is 0 the block after them, if there is one, has not
+equal-ends : (m : List ℕ) (len e s : ℕ) → hasZero m ≡ false → HasLength (placeFrom m e s (equalBlocks m len)) len → ⊥
 unfolding equalBlocks placeFrom
-equal-ends [] len e s e' s' l' r' n h k = absurd (let z : _≡_ {A = ℕ} 0 1 = cc in omega arith)
-equal-ends (c ∷ []) len e s e' s' l' r' n h k = absurd (let z : _≡_ {A = ℕ} 0 1 = cc in omega arith)
-equal-ends (c ∷ l ∷ rest) len e s e' s' l' r' n h k = go (eqb l len) refl (equal-ends rest len (e + 1) (s + c * l) e' s' l' r' (entry-nonzero c l rest n .1)) h
+equal-ends [] len e s n h = absurd (let k = h .3 in let z : _≡_ {A = ℕ} 0 1 = cc in omega arith)
+equal-ends (c ∷ []) len e s n h = absurd (let k = h .3 in let z : _≡_ {A = ℕ} 0 1 = cc in omega arith)
+equal-ends (c ∷ l ∷ rest) len e s n h = go (eqb l len) refl (equal-ends rest len (e + 1) (s + c * l) (entry-nonzero c l rest n .1)) h
   where
-    go : (t : Bool) → eqb l len ≡ t → (placeFrom rest (e + 1) (s + c * l) (equalBlocks rest len) ≡ At e' s' l' r' → l' ≡ len → ⊥)
-        → placeFrom (c ∷ l ∷ rest) e s (cond t (c + equalBlocks rest len) 0) ≡ At e' s' l' r' → ⊥
+    go : (t : Bool) → eqb l len ≡ t → (HasLength (placeFrom rest (e + 1) (s + c * l) (equalBlocks rest len)) len → ⊥)
+        → HasLength (placeFrom (c ∷ l ∷ rest) e s (cond t (c + equalBlocks rest len) 0)) len → ⊥
     go true q ih h =
         let z : c + equalBlocks rest len - c ≡ equalBlocks rest len = omega arith in
-        ih (rw z at (sym (place-past c l rest e s (c + equalBlocks rest len) (omega arith)) ∙ h)) k
+        ih (rw z at (same-place _ _ _ (sym (place-past c l rest e s (c + equalBlocks rest len) (omega arith))) h))
     go false q ih h =
-        let d = sym (place-here c l rest e s 0 (entry-nonzero c l rest n .0)) ∙ h in
-        let x : l ≡ l' = cc in
-        eqb-false l len q (x ∙ k)
+        let d = sym (place-here c l rest e s 0 (entry-nonzero c l rest n .0)) ∙ h .3 in
+        let x : l ≡ len = cc in
+        eqb-false l len q x
 
 -- a block's number of consecutive blocks, in an entry that holds it and in one that does not
-number-here : (c l : ℕ) (rest : List ℕ) (b : ℕ) → b < c → numberOfBlocks (c ∷ l ∷ rest) b ≡ c - b + equalBlocks rest l
-unfolding numberOfBlocks
+number-here : (c l : ℕ) (rest : List ℕ) (b : ℕ) → b < c → consecutiveBlocks (c ∷ l ∷ rest) b ≡ c - b + equalBlocks rest l
+unfolding consecutiveBlocks
 number-here c l rest b h = rw (lt-ltb b c h)
 
-number-past : (c l : ℕ) (rest : List ℕ) (b : ℕ) → c ≤ b → numberOfBlocks (c ∷ l ∷ rest) b ≡ numberOfBlocks rest (b - c)
-unfolding numberOfBlocks
+number-past : (c l : ℕ) (rest : List ℕ) (b : ℕ) → c ≤ b → consecutiveBlocks (c ∷ l ∷ rest) b ≡ consecutiveBlocks rest (b - c)
+unfolding consecutiveBlocks
 number-past c l rest b h = rw (le-ltb b c h)
 
 -- so many blocks from b on have b's length
-run-places : (m : List ℕ) (e s b e' s' l' r' k : ℕ) → placeFrom m e s b ≡ At e' s' l' r' → k < numberOfBlocks m b → HasLength (placeFrom m e s (b + k)) l'
+run-places : (m : List ℕ) (e s b e' s' l' r' k : ℕ) → placeFrom m e s b ≡ At e' s' l' r' → k < consecutiveBlocks m b → HasLength (placeFrom m e s (b + k)) l'
 run-places m e s b e' s' l' r' k h p = go (found m e s b e' s' l' r' h) p
   where
-    go : {m : List ℕ} {e s b : ℕ} → Found e' s' l' r' m e s b → k < numberOfBlocks m b → HasLength (placeFrom m e s (b + k)) l'
+    go : {m : List ℕ} {e s b : ℕ} → Found e' s' l' r' m e s b → k < consecutiveBlocks m b → HasLength (placeFrom m e s (b + k)) l'
     go (here c l rest e s b w a1 a2 a3 a4) p = near (ltb (b + k) c) refl
       where
         near : (t : Bool) → ltb (b + k) c ≡ t → HasLength (placeFrom (c ∷ l ∷ rest) e s (b + k)) l'
@@ -141,28 +141,28 @@ run-places m e s b e' s' l' r' k h p = go (found m e s b e' s' l' r' h) p
         let z : b + k - c ≡ b - c + k = omega arith in
         same-place _ _ _ (place-past c l rest e s (b + k) (omega arith) ∙ rw z) (go f (rw (number-past c l rest b w) at p))
 
--- and where no word is 0 the block after them, if there is one, has another length
-run-ends : (m : List ℕ) (e s b e' s' l' r' e'' s'' l'' r'' : ℕ) → hasZero m ≡ false
-    → placeFrom m e s b ≡ At e' s' l' r' → placeFrom m e s (b + numberOfBlocks m b) ≡ At e'' s'' l'' r'' → l'' ≡ l' → ⊥
-run-ends m e s b e' s' l' r' e'' s'' l'' r'' n h p k = go (found m e s b e' s' l' r' h) n p
+-- and where no word is 0 the block after them, if there is one, has not
+run-ends : (m : List ℕ) (e s b e' s' l' r' : ℕ) → hasZero m ≡ false
+    → placeFrom m e s b ≡ At e' s' l' r' → HasLength (placeFrom m e s (b + consecutiveBlocks m b)) l' → ⊥
+run-ends m e s b e' s' l' r' n h = go (found m e s b e' s' l' r' h) n
   where
-    go : {m : List ℕ} {e s b : ℕ} → Found e' s' l' r' m e s b → hasZero m ≡ false → placeFrom m e s (b + numberOfBlocks m b) ≡ At e'' s'' l'' r'' → ⊥
+    go : {m : List ℕ} {e s b : ℕ} → Found e' s' l' r' m e s b → hasZero m ≡ false → HasLength (placeFrom m e s (b + consecutiveBlocks m b)) l' → ⊥
     go (here c l rest e s b w a1 a2 a3 a4) n p =
         let z : b + (c - b + equalBlocks rest l) - c ≡ equalBlocks rest l = omega arith in
-        let p' = rw (number-here c l rest b w) at p in
-        equal-ends rest l (e + 1) (s + c * l) e'' s'' l'' r'' (entry-nonzero c l rest n .1)
-        (rw z at (sym (place-past c l rest e s (b + (c - b + equalBlocks rest l)) (omega arith)) ∙ p')) (k ∙ sym a3)
+        let past = place-past c l rest e s (b + (c - b + equalBlocks rest l)) (omega arith) in
+        equal-ends rest l (e + 1) (s + c * l) (entry-nonzero c l rest n .1)
+        (rw z at (same-place _ _ _ (sym past) (as-long _ _ _ (sym a3) (rw (number-here c l rest b w) at p))))
     go (later c l rest e s b w f) n p =
-        let z : b + numberOfBlocks rest (b - c) - c ≡ b - c + numberOfBlocks rest (b - c) = omega arith in
-        let p' = rw (number-past c l rest b w) at p in
-        go f (entry-nonzero c l rest n .1) (rw z at (sym (place-past c l rest e s (b + numberOfBlocks rest (b - c)) (omega arith)) ∙ p'))
+        let z : b + consecutiveBlocks rest (b - c) - c ≡ b - c + consecutiveBlocks rest (b - c) = omega arith in
+        let past = place-past c l rest e s (b + consecutiveBlocks rest (b - c)) (omega arith) in
+        go f (entry-nonzero c l rest n .1) (rw z at (same-place _ _ _ (sym past) (rw (number-past c l rest b w) at p)))
 
 -- the number, by the rest of the block's entry and the entries after it
 walk-number : (m : List ℕ) (e s b e' s' l' r' : ℕ) → placeFrom m e s b ≡ At e' s' l' r'
-    → numberOfBlocks m b ≡ r' + equalBlocks (drop (2 * (e' + 1 - e)) m) l'
+    → consecutiveBlocks m b ≡ r' + equalBlocks (drop (2 * (e' + 1 - e)) m) l'
 walk-number m e s b e' s' l' r' h = go (found m e s b e' s' l' r' h)
   where
-    go : {m : List ℕ} {e s b : ℕ} → Found e' s' l' r' m e s b → numberOfBlocks m b ≡ r' + equalBlocks (drop (2 * (e' + 1 - e)) m) l'
+    go : {m : List ℕ} {e s b : ℕ} → Found e' s' l' r' m e s b → consecutiveBlocks m b ≡ r' + equalBlocks (drop (2 * (e' + 1 - e)) m) l'
     go (here c l rest e s b w a1 a2 a3 a4) =
         let z : 2 * (e' + 1 - e) ≡ 2 = omega arith in
         rw (z, number-here c l rest b w, a4, a3)
@@ -203,6 +203,21 @@ unfolding blocks
 walk-blocks m e s b e' s' l' r' h = go (found m e s b e' s' l' r' h)
   where
     go : {m : List ℕ} {e s b : ℕ} → Found e' s' l' r' m e s b → blocks m ≡ b + (r' + blocks (drop (2 * (e' + 1 - e)) m))
+    go (here c l rest e s b w a1 a2 a3 a4) =
+        let z : 2 * (e' + 1 - e) ≡ 2 = omega arith in
+        rw z (omega arith)
+    go (later c l rest e s b w f) =
+        let o = entry-from f in
+        let z : 2 * (e' + 1 - e) ≡ suc (suc (2 * (e' + 1 - (e + 1)))) = omega arith in
+        let g = go f in
+        rw z (omega arith)
+
+-- and that of the blocks up to the end of its entry
+walk-left : (m : List ℕ) (e s b e' s' l' r' : ℕ) → placeFrom m e s b ≡ At e' s' l' r' → b + r' ≡ blocks (take (2 * (e' + 1 - e)) m)
+unfolding blocks
+walk-left m e s b e' s' l' r' h = go (found m e s b e' s' l' r' h)
+  where
+    go : {m : List ℕ} {e s b : ℕ} → Found e' s' l' r' m e s b → b + r' ≡ blocks (take (2 * (e' + 1 - e)) m)
     go (here c l rest e s b w a1 a2 a3 a4) =
         let z : 2 * (e' + 1 - e) ≡ 2 = omega arith in
         rw z (omega arith)
@@ -273,11 +288,6 @@ module _ (w : List ℕ) (i : ℕ) where
     pub entry-blocks : blocks (drop (2 * i) w) ≡ c + blocks (drop (2 * (i + 1)) w)
     entry-blocks = rw ec (blocks-entry w i h)
 
--- a run of equal blocks goes on with the entry after the block's own
-pub run-starts : (w : List ℕ) (len left i e : ℕ) → i ≡ e + 1
-    → left + equalBlocks (drop (2 * i) w) len ≡ left + equalBlocks (drop (2 * (e + 1)) w) len
-run-starts w len left i e h = rw h
-
 -- a walk from a block on: the blocks left in its entry are enough, or the walk goes on with the next entry
 pub walk-stop : (r l l' : ℕ) (rest : List ℕ) (n at : ℕ) → l ≡ l' → n ≤ r → at + n * l ≡ at + firstByte (r ∷ l' ∷ rest) n
 walk-stop r l l' rest n at e h = rw (e, firstByte-here r l' rest n h)
@@ -298,15 +308,33 @@ walk-more w j h = go (ltb (2 * j + 1) (length w)) refl
     go true e = ltb-true _ _ e
     go false e = absurd (omega (arith, count-end w j (ltb-false _ _ e)))
 
+-- the entries from one on have no more blocks than all
+blocks-from : (w : List ℕ) (i : ℕ) → blocks (drop (2 * i) w) ≤ blocks w
+unfolding blocks
+blocks-from w zero = omega arith
+blocks-from w (suc i) = let z : 2 * suc i ≡ suc (suc (2 * i)) = omega arith in rw z (go w (λ v. blocks-from v i))
+  where
+    go : (w : List ℕ) → ((v : List ℕ) → blocks (drop (2 * i) v) ≤ blocks v) → blocks (drop (suc (suc (2 * i))) w) ≤ blocks w
+    go [] ih = omega arith
+    go (c ∷ []) ih = omega arith
+    go (c ∷ l ∷ rest) ih = omega (arith, ih rest)
+
+pub equal-within : (w : List ℕ) (i len : ℕ) → equalBlocks (drop (2 * i) w) len ≤ blocks w
+equal-within w i len = omega (arith, equal-le (drop (2 * i) w) len, blocks-from w i)
+
 -- the same from the map's start: what a walk from a block that was found needs, and where it ends
 module _ (m : List ℕ) (b e s l r : ℕ) (h : place m b ≡ At e s l r) where
-  found-entry : (2 * e + 1 < length m) × (getD m (2 * e + 1) 0 ≡ l)
+  pub found-entry : (2 * e + 1 < length m) × (getD m (2 * e + 1) 0 ≡ l)
   unfolding place
   found-entry = rw (sub-zero e) at (walk-entry m 0 0 b e s l r h)
 
   found-blocks : blocks m ≡ b + (r + blocks (drop (2 * (e + 1)) m))
   unfolding place
   found-blocks = rw (sub-zero (e + 1)) at (walk-blocks m 0 0 b e s l r h)
+
+  pub entry-left : b + r ≡ blocks (take (2 * (e + 1)) m)
+  unfolding place
+  entry-left = rw (sub-zero (e + 1)) at (walk-left m 0 0 b e s l r h)
 
   pub found-walk : (n : ℕ) → s + firstByte (r ∷ getD m (2 * e + 1) 0 ∷ drop (2 * (e + 1)) m) n ≡ firstByte m (b + n)
   unfolding place
@@ -317,25 +345,25 @@ module _ (m : List ℕ) (b e s l r : ℕ) (h : place m b ≡ At e s l r) where
       × ((n ≤ r + blocks (drop (2 * (e + 1)) m)) × (s + firstByte (r ∷ getD m (2 * e + 1) 0 ∷ drop (2 * (e + 1)) m) n ≤ maxLength))
   walk-asks n p q = (found-entry .0, (omega (arith, found-blocks), omega (arith, found-walk n, firstByte-le m (b + n))))
 
-  pub found-number : r + equalBlocks (drop (2 * (e + 1)) m) l ≡ numberOfBlocks m b
+  pub found-number : r + equalBlocks (drop (2 * (e + 1)) m) l ≡ consecutiveBlocks m b
   unfolding place
   found-number = sym (rw (sub-zero (e + 1)) at (walk-number m 0 0 b e s l r h))
 
-  pub number-asks : blocks m ≤ maxBlocks → (2 * e + 1 < length m) × (r + blocks (drop (2 * (e + 1)) m) ≤ maxBlocks)
-  number-asks p = (found-entry .0, omega (arith, found-blocks))
+  pub number-fits : blocks m ≤ maxBlocks → consecutiveBlocks m b ≤ maxBlocks
+  number-fits p = omega (arith, found-number, found-blocks, equal-le (drop (2 * (e + 1)) m) l)
 
   -- each of a block's consecutive blocks has its length
-  pub number-alike : (k : ℕ) → k < numberOfBlocks m b → HasLength (place m (b + k)) l
+  pub number-alike : (k : ℕ) → k < consecutiveBlocks m b → HasLength (place m (b + k)) l
   unfolding place
   number-alike k p = run-places m 0 0 b e s l r k h p
 
-  -- the block after them, if there is one, another
-  pub number-ends : hasZero m ≡ false → (l' : ℕ) → HasLength (place m (b + numberOfBlocks m b)) l' → l' ≡ l → ⊥
+  -- the block after them, if there is one, has not
+  pub number-ends : hasZero m ≡ false → HasLength (place m (b + consecutiveBlocks m b)) l → ⊥
   unfolding place
-  number-ends n l' p = run-ends m 0 0 b e s l r (p .0) (p .1) l' (p .2) n h (p .3)
+  number-ends n = run-ends m 0 0 b e s l r n h
 
   -- where no two neighbouring entries have the same length, they are those to the entry's end
-  pub number-in-entry : ((i : ℕ) → 2 * (i + 1) + 1 < length m → getD m (2 * i + 1) 0 ≡ getD m (2 * (i + 1) + 1) 0 → ⊥) → numberOfBlocks m b ≡ r
+  pub number-in-entry : ((i : ℕ) → 2 * (i + 1) + 1 < length m → getD m (2 * i + 1) 0 ≡ getD m (2 * (i + 1) + 1) 0 → ⊥) → consecutiveBlocks m b ≡ r
   number-in-entry d = omega (arith, found-number, go (ltb (2 * (e + 1) + 1) (length m)) refl)
     where
       go : (t : Bool) → ltb (2 * (e + 1) + 1) (length m) ≡ t → equalBlocks (drop (2 * (e + 1)) m) l ≡ 0

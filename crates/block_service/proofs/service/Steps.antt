@@ -19,7 +19,7 @@ use Rattle.volume.specs.State.{mapOf, unlawful}
 use Rattle.volume.specs.declared.state.State.{State}
 use Rattle.volume.proofs.state.Lawful.{Lawful, lawful}
 use Rattle.block_service.specs.Access.{countMoved, erasedByte, keep, erase, writeChange, changedByte}
-use Rattle.block_service.specs.Blocks.{place, startOf, lengthOf, blockAt, numberOfBlocks}
+use Rattle.block_service.specs.Blocks.{place, startOf, lengthOf, blockAt, consecutiveBlocks}
 use Rattle.block_service.specs.Erase.{goodList, names, eraseChange}
 use Rattle.block_service.specs.Service.{Call, getAttributes, setAttributes, getPhysicalAddress, getBlockSize, read, write, eraseBlocks, lentRefusals, refusals}
 use Rattle.block_service.specs.Service.{effect, moveAnswer, Result, result, perform, bufferOf, step, decide}
@@ -110,7 +110,7 @@ unfolding perform effect bufferOf startOf lengthOf
 write-step st v b o new e s l r k a after n h ek ea eb = rw (eb, ea, ek) (rw h at (allowed-step st v (write b o new) n))
 
 pub size-step : (st : State) (v : List ℕ) (b e s l r n : ℕ)
-    → firstRefusal (refusals st (length v) (getBlockSize b)) ≡ none → place (mapOf st) b ≡ At e s l r → n ≡ numberOfBlocks (mapOf st) b
+    → firstRefusal (refusals st (length v) (getBlockSize b)) ≡ none → place (mapOf st) b ≡ At e s l r → n ≡ consecutiveBlocks (mapOf st) b
     → result (success (l ∷ n ∷ [])) st v [] ≡ step st v (getBlockSize b)
 unfolding perform effect bufferOf lengthOf
 size-step st v b e s l r n p h k = rw k (rw h at (allowed-step st v (getBlockSize b) p))

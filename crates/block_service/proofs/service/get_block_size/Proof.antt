@@ -1,4 +1,5 @@
 -- `block_service::service::get_block_size` meets its contract.
+use Prim.Native.Nat.{ℕ, _+_, _*_, _≤_}
 use mathlib.Core.Path.{_≡_, sym, _∙_}
 use mathlib.Core.Bool.{false}
 use native.Mathlib.Omega.{arith}
@@ -9,11 +10,11 @@ use lib.Seq.{length-take-le}
 use Rattle.common.proofs.Refusals.{row-applies, row-passes, no-row}
 use Rattle.volume.specs.State.{stateWith, mapOf, unlawful}
 use Rattle.volume.proofs.state.Lawful.{Lawful, lawful, lent-bytes}
-use Rattle.block_service.specs.Blocks.{place}
+use Rattle.block_service.specs.Blocks.{place, consecutiveBlocks}
 use Rattle.block_service.specs.Service.{getBlockSize, blockSizeAnswer, bufferOf, refusals}
 use Rattle.block_service.specs.declared.blocks.Place.the-variants.{At}
 use Rattle.block_service.proofs.blocks.Places.{place-lost, place-found}
-use Rattle.block_service.proofs.blocks.Runs.{number-asks, found-number}
+use Rattle.block_service.proofs.blocks.Runs.{found-entry, found-number, number-fits}
 use Rattle.block_service.proofs.service.Steps.{unlawful-step, refused-step, size-step}
 use Rattle.block_service.proofs.service.get_block_size.Statement.{statement}
 use Rattle.block_service.proofs.service.get_block_size.Tie as tie
@@ -62,44 +63,67 @@ returns-2 c =
     let lost = place-lost _ _ (sym (located scanned) ∙ c .enum-told .given .1) in
     λ v. refused-step _ v (getBlockSize _) 2 (row-passes _ _ _ _ (ok (passed scanned)) (row-applies _ _ _ (le-leb _ _ lost)))
 
--- the block was found
-abbrev scanned : tie.After-known-told → tie.After-locate
-scanned c = c .before .before .before
-
-hit : (c : tie.After-known-told)
-    → place (mapOf (entry (passed (scanned c) .before) .args .st)) (entry (passed (scanned c) .before) .args .block)
-    ≡ At (c .before .found .given .0 .0) (c .before .found .given .0 .1 .0) (c .before .found .given .0 .1 .1 .0) (c .before .found .given .0 .1 .1 .1 .0)
-hit c = sym (located (scanned c)) ∙ c .before .found .given .1
-
-known : (c : tie.After-known-told) → Lawful (entry (passed (scanned c) .before) .args .st)
-known c = lawful _ (ok (passed (scanned c)))
-
 map-length : (c : tie.Start) → length (c .args .st .map) ≡ 64
 map-length c = search needs
+
+-- the block was found
+module _ (c : tie.After-known-told) where
+  abbrev scanned : tie.After-locate
+  scanned = c .before .before .before
+
+  abbrev asked : tie.Start
+  asked = entry (passed scanned .before)
+
+  abbrev left : ℕ
+  left = c .before .found .given .0 .1 .1 .1 .0
+
+  hit : place (mapOf (asked .args .st)) (asked .args .block)
+      ≡ At (c .before .found .given .0 .0) (c .before .found .given .0 .1 .0) (c .before .found .given .0 .1 .1 .0) left
+  hit = sym (located scanned) ∙ c .before .found .given .1
+
+  known : Lawful (asked .args .st)
+  known = lawful _ (ok (passed scanned))
+
+  words-fit : 2 * asked .args .st .entries ≤ length (asked .args .st .map)
+  words-fit = omega (arith, map-length asked, known .entries)
 
 mul-end : tie.Need-mul-end
 mul-end c = omega (arith, known (c .before) .entries)
 
 array-share-prefix-map : tie.Need-array-share-prefix-map
-array-share-prefix-map c = let found = c .before in omega (arith, map-length (entry (passed (scanned found) .before)), known found .entries)
+array-share-prefix-map c = omega (arith, words-fit (c .before))
 
 slice-aggregate-equal-blocks : tie.Need-slice-aggregate-equal-blocks
-slice-aggregate-equal-blocks c =
-    let found = c .before .before in
-    sym (length-take-le _ _ (omega (arith, map-length (entry (passed (scanned found) .before)), known found .entries)))
+slice-aggregate-equal-blocks c = sym (length-take-le _ _ (words-fit (c .before .before)))
 
 equal-blocks-requires : tie.Need-equal-blocks-requires
 unfolding mapOf
-equal-blocks-requires c κs = let found = c .before .before in number-asks _ _ _ _ _ _ (hit found) (known found .blocks)
+equal-blocks-requires c κs =
+    let found = c .before .before in
+    (found-entry _ _ _ _ _ _ (hit found) .0, known found .blocks)
+
+-- the number that is answered
+abbrev located-at : tie.After-equal-blocks → tie.After-known-told
+located-at c = c .before .before .before
+
+counted : (c : tie.After-equal-blocks)
+    → left (located-at c) + c .equal-blocks .result
+    ≡ consecutiveBlocks (mapOf (asked (located-at c) .args .st)) (asked (located-at c) .args .block)
+unfolding mapOf
+counted c = omega (arith, c .equal-blocks .ensures, found-number _ _ _ _ _ _ (hit (located-at c)))
+
+add-count : tie.Need-add-count
+add-count c = let found = located-at c in omega (arith, counted c, number-fits _ _ _ _ _ _ (hit found) (known found .blocks))
 
 returns-3 : tie.Need-returns-3
-unfolding blockSizeAnswer refusals mapOf
+unfolding blockSizeAnswer refusals
 returns-3 c =
-    let found = c .before .before .before in
+    let found = located-at c in
+    let there = place-found _ _ _ _ _ _ (hit found) in
     λ v.
     size-step _ v _ _ _ _ _ _
-    (row-passes _ _ _ _ (ok (passed (scanned found))) (row-passes _ _ _ _ (lt-leb _ _ (place-found _ _ _ _ _ _ (hit found))) no-row))
-    (hit found) (c .equal-blocks .ensures ∙ found-number _ _ _ _ _ _ (hit found))
+    (row-passes _ _ _ _ (ok (passed (scanned found))) (row-passes _ _ _ _ (lt-leb _ _ there) no-row))
+    (hit found) (omega (arith, counted c))
 
 pub get-block-size-spec : {M : Type 1} → statement M
 get-block-size-spec =
@@ -115,4 +139,5 @@ get-block-size-spec =
     array-share-prefix-map
     slice-aggregate-equal-blocks
     equal-blocks-requires
+    add-count
     returns-3)
