@@ -184,20 +184,20 @@ pub size-alike : (st : State) (v : List ℕ) (b l n : ℕ) → step st v (getBlo
     → (k : ℕ) → k < n → HasLength (place (mapOf st) (b + k)) l
 size-alike = Sizes.size-alike
 
--- they lie one after the other
-pub size-starts : (st : State) (v : List ℕ) (b l n : ℕ) → step st v (getBlockSize b) .answer ≡ success (l ∷ n ∷ [])
-    → (k : ℕ) → k < n → startOf (place (mapOf st) (b + k)) ≡ startOf (place (mapOf st) b) + k * l
-size-starts = Sizes.size-starts
-
 -- "while the length stays equal" (02, b): the block after them, if there is one, has another length
 pub size-ends : (st : State) (v : List ℕ) (b l n : ℕ) → step st v (getBlockSize b) .answer ≡ success (l ∷ n ∷ [])
     → HasLength (place (mapOf st) (b + n)) l → ⊥
 size-ends = Sizes.size-ends
 
--- and n is the only number of which both are true
+-- and n is the only number of which the two are true
 pub size-only : (st : State) (v : List ℕ) (b l n : ℕ) → step st v (getBlockSize b) .answer ≡ success (l ∷ n ∷ [])
     → (k : ℕ) → ((i : ℕ) → i < k → HasLength (place (mapOf st) (b + i)) l) → (HasLength (place (mapOf st) (b + k)) l → ⊥) → k ≡ n
 size-only = Sizes.size-only
+
+-- the blocks of the run lie one after the other
+pub size-starts : (st : State) (v : List ℕ) (b l n : ℕ) → step st v (getBlockSize b) .answer ≡ success (l ∷ n ∷ [])
+    → (k : ℕ) → k < n → startOf (place (mapOf st) (b + k)) ≡ startOf (place (mapOf st) b) + k * l
+size-starts = Sizes.size-starts
 
 -- the block asked is one of them
 pub size-itself : (st : State) (v : List ℕ) (b l n : ℕ) → step st v (getBlockSize b) .answer ≡ success (l ∷ n ∷ []) → 0 < n

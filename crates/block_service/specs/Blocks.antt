@@ -1,5 +1,6 @@
--- Where blocks lie (document 01, Block service): "Blocks are numbered from 0 through the map in order. The first map entry that holds
--- the block settles its place; nothing after it is consulted." A map is the list of its words, as in BlockMap.
+-- Where blocks lie (document 01, Block service): "Blocks are numbered from 0 through the map in order. The first map entry that holds the block settles
+-- its place; nothing after it is consulted." And how many blocks of one length follow one another (document 000, GetBlockSize; document 02, b). A map
+-- is the list of its words, as in BlockMap.
 use Prim.Native.Nat.{ℕ, _+_, _-_, _*_, _/_, min}
 use mathlib.Core.Bool.{Bool, false, cond, _&&_}
 use mathlib.Core.List.{List, [], _∷_}

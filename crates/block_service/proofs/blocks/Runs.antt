@@ -33,7 +33,7 @@ as-long p l len q h = (h .0, h .1, h .2, h .3 ∙ ap (λ (j : ℕ). At (h .0) (h
 same-place : (p q : Place) (l : ℕ) → p ≡ q → HasLength q l → HasLength p l
 same-place p q l e h = (h .0, h .1, h .2, e ∙ h .3)
 
--- the words of an entry, and of those after it, where no word is 0
+-- where no word is 0 an entry has blocks, and no word after it is 0
 entry-nonzero : (c l : ℕ) (rest : List ℕ) → hasZero (c ∷ l ∷ rest) ≡ false → (0 < c) × (hasZero rest ≡ false)
 unfolding hasZero
 entry-nonzero c l rest h =
@@ -212,21 +212,6 @@ walk-blocks m e s b e' s' l' r' h = go (found m e s b e' s' l' r' h)
         let g = go f in
         rw z (omega arith)
 
--- and that of the blocks up to the end of its entry
-walk-left : (m : List ℕ) (e s b e' s' l' r' : ℕ) → placeFrom m e s b ≡ At e' s' l' r' → b + r' ≡ blocks (take (2 * (e' + 1 - e)) m)
-unfolding blocks
-walk-left m e s b e' s' l' r' h = go (found m e s b e' s' l' r' h)
-  where
-    go : {m : List ℕ} {e s b : ℕ} → Found e' s' l' r' m e s b → b + r' ≡ blocks (take (2 * (e' + 1 - e)) m)
-    go (here c l rest e s b w a1 a2 a3 a4) =
-        let z : 2 * (e' + 1 - e) ≡ 2 = omega arith in
-        rw z (omega arith)
-    go (later c l rest e s b w f) =
-        let o = entry-from f in
-        let z : 2 * (e' + 1 - e) ≡ suc (suc (2 * (e' + 1 - (e + 1)))) = omega arith in
-        let g = go f in
-        rw z (omega arith)
-
 -- the entry of a block that was found is one of the map's, and its length word is the block's length
 walk-entry : (m : List ℕ) (e s b e' s' l' r' : ℕ) → placeFrom m e s b ≡ At e' s' l' r'
     → (2 * (e' - e) + 1 < length m) × (getD m (2 * (e' - e) + 1) 0 ≡ l')
@@ -308,19 +293,20 @@ walk-more w j h = go (ltb (2 * j + 1) (length w)) refl
     go true e = ltb-true _ _ e
     go false e = absurd (omega (arith, count-end w j (ltb-false _ _ e)))
 
--- the entries from one on have no more blocks than all
-blocks-from : (w : List ℕ) (i : ℕ) → blocks (drop (2 * i) w) ≤ blocks w
+-- the blocks are those of the entries before one and those of the entries from it on
+blocks-split : (w : List ℕ) (i : ℕ) → blocks w ≡ blocks (take (2 * i) w) + blocks (drop (2 * i) w)
 unfolding blocks
-blocks-from w zero = omega arith
-blocks-from w (suc i) = let z : 2 * suc i ≡ suc (suc (2 * i)) = omega arith in rw z (go w (λ v. blocks-from v i))
+blocks-split w zero = omega arith
+blocks-split w (suc i) = let z : 2 * suc i ≡ suc (suc (2 * i)) = omega arith in rw z (go w (λ v. blocks-split v i))
   where
-    go : (w : List ℕ) → ((v : List ℕ) → blocks (drop (2 * i) v) ≤ blocks v) → blocks (drop (suc (suc (2 * i))) w) ≤ blocks w
+    go : (w : List ℕ) → ((v : List ℕ) → blocks v ≡ blocks (take (2 * i) v) + blocks (drop (2 * i) v))
+        → blocks w ≡ blocks (take (suc (suc (2 * i))) w) + blocks (drop (suc (suc (2 * i))) w)
     go [] ih = omega arith
     go (c ∷ []) ih = omega arith
     go (c ∷ l ∷ rest) ih = omega (arith, ih rest)
 
 pub equal-within : (w : List ℕ) (i len : ℕ) → equalBlocks (drop (2 * i) w) len ≤ blocks w
-equal-within w i len = omega (arith, equal-le (drop (2 * i) w) len, blocks-from w i)
+equal-within w i len = omega (arith, equal-le (drop (2 * i) w) len, blocks-split w i)
 
 -- the same from the map's start: what a walk from a block that was found needs, and where it ends
 module _ (m : List ℕ) (b e s l r : ℕ) (h : place m b ≡ At e s l r) where
@@ -333,8 +319,7 @@ module _ (m : List ℕ) (b e s l r : ℕ) (h : place m b ≡ At e s l r) where
   found-blocks = rw (sub-zero (e + 1)) at (walk-blocks m 0 0 b e s l r h)
 
   pub entry-left : b + r ≡ blocks (take (2 * (e + 1)) m)
-  unfolding place
-  entry-left = rw (sub-zero (e + 1)) at (walk-left m 0 0 b e s l r h)
+  entry-left = omega (arith, found-blocks, blocks-split m (e + 1))
 
   pub found-walk : (n : ℕ) → s + firstByte (r ∷ getD m (2 * e + 1) 0 ∷ drop (2 * (e + 1)) m) n ≡ firstByte m (b + n)
   unfolding place

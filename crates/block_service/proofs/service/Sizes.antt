@@ -59,7 +59,22 @@ module _ (st : State) (v : List ℕ) (b l n : ℕ) (h : step st v (getBlockSize 
   pub size-alike : (k : ℕ) → k < n → HasLength (place (mapOf st) (b + k)) l
   size-alike k p = let f = size-length in number-alike (mapOf st) b (f .0) (f .1) l (f .2) (f .3) k (omega (arith, size-number))
 
-  -- they lie one after the other
+  -- the block after them, if there is one, has not
+  pub size-ends : HasLength (place (mapOf st) (b + n)) l → ⊥
+  size-ends p =
+      let f = size-length in
+      number-ends (mapOf st) b (f .0) (f .1) l (f .2) (f .3) (lawful st (passed .0) .nonzero) (rw (sym size-number) at p)
+
+  -- and n is the only number of which the two are true
+  pub size-only : (k : ℕ) → ((i : ℕ) → i < k → HasLength (place (mapOf st) (b + i)) l) → (HasLength (place (mapOf st) (b + k)) l → ⊥) → k ≡ n
+  size-only k alike ends = go (ltb k n) refl (ltb n k) refl
+    where
+      go : (t : Bool) → ltb k n ≡ t → (u : Bool) → ltb n k ≡ u → k ≡ n
+      go true q u w = absurd (ends (size-alike k (ltb-true _ _ q)))
+      go false q true w = absurd (size-ends (alike n (ltb-true _ _ w)))
+      go false q false w = omega (arith, ltb-false k n q, ltb-false n k w)
+
+  -- the blocks of the run lie one after the other
   pub size-starts : (k : ℕ) → k < n → startOf (place (mapOf st) (b + k)) ≡ startOf (place (mapOf st) b) + k * l
   unfolding startOf
   size-starts zero p = rw (add-zero b, zero-mul l, add-zero (startOf (place (mapOf st) b)))
@@ -73,22 +88,7 @@ module _ (st : State) (v : List ℕ) (b l n : ℕ) (h : step st v (getBlockSize 
       let m : suc k * l ≡ k * l + 1 * l = ap (λ (j : ℕ). j * l) (let d : suc k ≡ k + 1 = omega arith in d) ∙ add-mul k 1 l in
       omega (arith, size-starts k (omega arith))
 
-  -- the block after them, if there is one, has not
-  pub size-ends : HasLength (place (mapOf st) (b + n)) l → ⊥
-  size-ends p =
-      let f = size-length in
-      number-ends (mapOf st) b (f .0) (f .1) l (f .2) (f .3) (lawful st (passed .0) .nonzero) (rw (sym size-number) at p)
-
-  -- and n is the only number of which both are true
-  pub size-only : (k : ℕ) → ((i : ℕ) → i < k → HasLength (place (mapOf st) (b + i)) l) → (HasLength (place (mapOf st) (b + k)) l → ⊥) → k ≡ n
-  size-only k alike ends = go (ltb k n) refl (ltb n k) refl
-    where
-      go : (t : Bool) → ltb k n ≡ t → (u : Bool) → ltb n k ≡ u → k ≡ n
-      go true q u w = absurd (ends (size-alike k (ltb-true _ _ q)))
-      go false q true w = absurd (size-ends (alike n (ltb-true _ _ w)))
-      go false q false w = omega (arith, ltb-false k n q, ltb-false n k w)
-
-  -- the block itself is one of them
+  -- the block asked is one of them
   pub size-itself : 0 < n
   size-itself = go (ltb 0 n) refl
     where

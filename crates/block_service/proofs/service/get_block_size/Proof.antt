@@ -102,10 +102,11 @@ equal-blocks-requires c κs =
     let found = c .before .before in
     (found-entry _ _ _ _ _ _ (hit found) .0, known found .blocks)
 
--- the number that is answered
+-- where the blocks of the entries after it were counted
 abbrev located-at : tie.After-equal-blocks → tie.After-known-told
 located-at c = c .before .before .before
 
+-- the number that is answered
 counted : (c : tie.After-equal-blocks)
     → left (located-at c) + c .equal-blocks .result
     ≡ consecutiveBlocks (mapOf (asked (located-at c) .args .st)) (asked (located-at c) .args .block)
