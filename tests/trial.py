@@ -115,6 +115,11 @@ def header_writing(name, room, guid, length, attributes, map_words, pattern=PATT
     return Case(name, script, [line(name, "write header", *fields)], [no])
 
 
+def word_sums(name, data):
+    sums = "".join("%04x," % value for value in volume.running_sums(data))
+    return Case(name, items(name.encode(), number(6), data), [line(name, "word sum", sums)], [0])
+
+
 def listing(name, own, lent, room=LISTING, pattern=ERASED):
     text = volume.listing(prepared(own, pattern, WORKING)[:lent])
     before = prepared(b"", PATTERN, LISTING)

@@ -4,13 +4,14 @@ A line of a case: its name, the call, and
   open          number, length, attributes, entries, base, GUID, map words (zeros on a refusal)
   write header  number, header length on success, the room's change
   list          number, length of the text on success, the text with | for a line feed
+  word sum      the sum after each word, in hexadecimal
 README.md has the fields of a change. A name's end says which refusal the case gets.
 """
 
 from itertools import combinations
 
-from model.volume import header_bytes, word_sum
-from trial import header_writing, listing, opening
+from model.volume import header_bytes, number, word_sum
+from trial import header_writing, listing, opening, word_sums
 
 GUID = bytes(range(0x10, 0x20))
 NO_GUID = bytes(16)
@@ -86,6 +87,50 @@ def sum_cases():
     yield opening("zero vector nonzero, sum right, opens", patched(0, *range(1, 17)), 2048)
     own = header(guid=GUID, patches=[(0, bytes(range(200, 216))), (52, b"\xff\xff\xff")])
     yield opening("every ignored byte nonzero, sum right, opens", own, 2048)
+
+
+def with_sum(own, off):
+    """The header with its checksum off by so many, so that its words sum to that modulo 65,536."""
+    checksum = (number(own, 50, 2) + off) % 65536
+    return own[:50] + checksum.to_bytes(2, "little") + own[52:]
+
+
+def true_sum(own):
+    return sum(number(own, i, 2) for i in range(0, len(own), 2))
+
+
+# Headers by how often their true sum passes 65,536.
+WRAPS = {
+    "1 entry, wraps once": (header([1, 72], attributes=0), 72),
+    "1 entry, wraps nine times": (header(guid=b"\xff" * 16), 2048),
+    "32 entries, wraps once": (header([1, 1] * 31 + [1, 289], attributes=0), 4096),
+    "32 entries, wraps often": (header(FULL_MAP, guid=b"\xff" * 16, patches=[(0, b"\xff" * 16), (52, b"\xff\xff\xff")]), 2112),
+}
+
+
+def wrap_cases():
+    for name, (own, lent) in WRAPS.items():
+        yield opening(name + " to exactly 0, opens", own, lent)
+        for off in (-1, 1, 0x8000):
+            yield opening("%s to 0x%04X: 105" % (name, off % 65536), with_sum(own, off), lent)
+    # with each carry added back, as internet checksums do, the sum is 0 modulo 65,535
+    for name, (own, lent) in WRAPS.items():
+        wraps = true_sum(own) // 65536
+        if wraps > 1:
+            yield opening("%s, 0 where carries are added back: 105" % name, with_sum(own, -wraps), lent)
+
+
+def running_cases():
+    yield word_sums("sample A's header", A)
+    for name, (own, _) in WRAPS.items():
+        yield word_sums(name, own)
+    yield word_sums("no byte", b"")
+    yield word_sums("one byte", b"\xfe")
+    yield word_sums("an odd byte is the low byte of a last word", b"\x01\xff\xff")
+    yield word_sums("FFFF and 1 more wrap to 0", b"\xff\xff\x01\x00\x01\x00")
+    yield word_sums("FFFF over and over", b"\xff" * 40)
+    yield word_sums("8000 twice wraps to 0", b"\x00\x80" * 4)
+    yield word_sums("low byte first", b"\x01\x00\x00\x01\x34\x12")
 
 
 def map_cases():
@@ -191,7 +236,10 @@ def writing_cases():
     yield header_writing("GUID and a map of four entries", 100, GUID, 1536, 0x8FFF8E00 | 0x3F, MIXED_MAP)
     yield header_writing("32 entries into 320 bytes", 320, GUID, 2112, 0x063F, FULL_MAP)
     yield header_writing("32 entries into 319 bytes: 5", 319, GUID, 2112, 0x063F, FULL_MAP)
-    yield header_writing("words that sum to 0 get checksum 0", 72, words_to_zero(), 2048, A_ATTRIBUTES, A_MAP)
+    yield header_writing("words that sum to 0 get checksum 0", 72, words_to(0), 2048, A_ATTRIBUTES, A_MAP)
+    yield header_writing("words that sum to FFFF get checksum 1", 72, words_to(0xFFFF), 2048, A_ATTRIBUTES, A_MAP)
+    yield header_writing("words that sum to 1 get checksum FFFF", 72, words_to(1), 2048, A_ATTRIBUTES, A_MAP)
+    yield header_writing("32 entries, a sum that wraps often", 320, b"\xff" * 16, 2112, 0xFFFF8E3F, FULL_MAP)
     yield header_writing("the smallest volume", 72, GUID, 72, 0, [1, 72])
     for name, words in (("first word 0", [0, 512]), ("second word 0", [4, 0]), ("both 0", [0, 0]),
                         ("a word of the second pair 0", [4, 512, 0, 1]), ("one word", [4]), ("three words", [4, 512, 1]),
@@ -216,10 +264,10 @@ def writing_cases():
     yield header_writing("108 before 5: 108", 71, NO_GUID, 2048, 0x100, A_MAP)
 
 
-def words_to_zero():
-    """A GUID with which the other words sum to 0, so that the checksum is 0."""
+def words_to(total):
+    """A GUID with which the words but the checksum sum to this modulo 65,536."""
     rest = header_bytes(NO_GUID, 2048, A_ATTRIBUTES, A_MAP)
-    return bytes(rest[50:52]) + bytes(14)
+    return ((number(rest, 50, 2) + total) % 65536).to_bytes(2, "little") + bytes(14)
 
 
 def listing_cases():
@@ -242,8 +290,9 @@ def listing_cases():
 
 
 def cases():
-    for group in (length_cases, field_cases, sum_cases, map_cases, total_cases, attribute_cases, base_cases,
-                  good_cases, fault_pairs, writing_cases, listing_cases):
-        subject = "write" if group is writing_cases else "list" if group is listing_cases else "open"
+    subjects = {writing_cases: "write", listing_cases: "list", running_cases: "sum"}
+    for group in (length_cases, field_cases, sum_cases, wrap_cases, map_cases, total_cases, attribute_cases, base_cases,
+                  good_cases, fault_pairs, writing_cases, listing_cases, running_cases):
+        subject = subjects.get(group, "open")
         for case in group():
             yield subject, case

@@ -1,5 +1,5 @@
-"""Firmware volumes, as the scope document describes them, with request b of
-02: opening, header writing and the seven calls of the block service.
+"""Firmware volumes, as the scope document describes them, with requests b and
+d of 02: opening, header writing and the seven calls of the block service.
 
 Every function answers (number, values...): 0 for success, 4 for short, else
 the refusal number. Lent bytes are bytearrays and are changed in place.
@@ -30,6 +30,15 @@ def number(data, place, width):
 
 def word_sum(header):
     return sum(number(header, i, 2) for i in range(0, len(header), 2)) % 65536
+
+
+def running_sums(header):
+    """Request d: one 16-bit accumulator, which wraps at each addition, after each word."""
+    sums, accumulator = [], 0
+    for i in range(0, len(header), 2):
+        accumulator = (accumulator + number(header, i, 2)) & 0xFFFF
+        sums.append(accumulator)
+    return sums
 
 
 def pairs_of(words):

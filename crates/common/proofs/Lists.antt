@@ -1,12 +1,12 @@
 -- Laws of lists that the loops of several crates share.
-use Prim.Native.Nat.{ℕ, suc, _+_, _-_, _≤_, _<_}
+use Prim.Native.Nat.{ℕ, zero, suc, _+_, _-_, _≤_, _<_}
 use mathlib.Core.Path.{_≡_, refl, sym, ap, _∙_}
 use mathlib.Core.List.{List, [], _∷_, _++_, append-assoc, append-nil}
 use native.Mathlib.Numerals.{add-one, add-two}
 use native.Mathlib.Omega.{arith}
-use native.Mathlib.Nat.{add-zero, zero-add, ne-of-gt}
-use lib.ListN.{length, getD, take, drop, set, replicate, drop-of-length-le, take-append-drop, length-replicate, length-drop, length-append}
-use lib.Seq.{sets, set-out, set-comm, sets-eq, take-append-seam, drop-append-add, drop-append-seam, take-suc-set, drop-cons, drop-set-lt, take-all, append-snoc}
+use native.Mathlib.Nat.{add-zero, zero-add, sub-zero, ne-of-gt}
+use lib.ListN.{length, getD, take, drop, set, replicate, drop-of-length-le, take-append-drop, length-append}
+use lib.Seq.{sets, set-out, set-comm, sets-eq, take-append-seam, drop-append-add, drop-append-seam, take-suc-set, drop-cons, drop-set-lt, drop-drop, take-all, append-snoc}
 
 -- two elements of a list from place i on, and the rest
 pub drop-two : (w : List ℕ) (i : ℕ) → i + 1 < length w → drop i w ≡ getD w i 0 ∷ getD w (i + 1) 0 ∷ drop (i + 2) w
@@ -28,16 +28,15 @@ fill-done t l i e h q = sym (append-nil l) ∙ (rw (take-all i l h, drop-of-leng
 pub fill-front : (t l : List ℕ) (i : ℕ) → length t ≤ i → take i l ++ drop i t ≡ t → l ≡ t ++ drop i l
 fill-front t l i h q = sym (take-append-drop i l) ∙ ap (λ (x : List ℕ). x ++ drop i l) (sym (append-nil (take i l)) ∙ (rw (drop-of-length-le t {i = i} h) at q))
 
--- equal lists have equal rests
-rest-same : {a b : ℕ} {x y : List ℕ} → a ∷ x ≡ b ∷ y → x ≡ y
-rest-same e = cc
+-- lists alike from place i on are alike from i + 1 on after a store at i
+pub beyond-next : (l m : List ℕ) (i v : ℕ) → drop i l ≡ drop i m → drop (i + 1) (set l i v) ≡ drop (i + 1) m
+beyond-next l m i v e = drop-set-lt (i + 1) l i v (omega arith) ∙ sym (drop-drop 1 i l) ∙ ap (λ (x : List ℕ). drop 1 x) e ∙ drop-drop 1 i m
 
--- a list of zeros from place i on is one from i + 1 on after a store at i
-pub zeros-next : (n : ℕ) (l : List ℕ) (i v : ℕ) → i < length l → drop i l ≡ replicate (n - i) 0 → drop (i + 1) (set l i v) ≡ replicate (n - (i + 1)) 0
-zeros-next n l i v h q =
-    let len : length l - i ≡ n - i = sym (length-drop i l) ∙ ap length q ∙ length-replicate (n - i) 0 in
-    let e : n - i ≡ suc (n - (i + 1)) = omega arith in
-    rw (drop-set-lt (i + 1) l i v (omega arith)) (rest-same (rw (drop-cons l i 0 h, e, ← add-one i) at q))
+-- zeros from place k on
+pub drop-zeros : (k n : ℕ) → drop k (replicate {A = ℕ} n 0) ≡ replicate (n - k) 0
+drop-zeros zero n = rw sub-zero
+drop-zeros (suc k) zero = let none : 0 - suc k ≡ 0 = omega arith in rw none
+drop-zeros (suc k) (suc n) = let e : suc n - suc k ≡ n - k = omega arith in rw e (drop-zeros k n)
 
 -- ---- runs of stores: `sets l i vs` is l with vs stored from place i on
 

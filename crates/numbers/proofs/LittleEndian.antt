@@ -3,7 +3,7 @@
 use Prim.Native.Nat.{ℕ, zero, suc, _+_, _-_, _*_, _/_, _%_, _^_, _≤_, _<_}
 use mathlib.Core.Path.{_≡_, refl, sym, ap, ap₂, _∙_}
 use mathlib.Core.List.{List, [], _∷_, _++_, append-assoc}
-use native.Mathlib.Nat.{add-zero, sub-self, sub-zero, ne-of-lt, ne-of-gt, div-lt-iff-lt-mul, one-le-pow, pow-suc, pow-le-pow-right}
+use native.Mathlib.Nat.{add-zero, zero-add, sub-self, sub-zero, ne-of-lt, ne-of-gt, div-lt-iff-lt-mul, one-le-pow, pow-suc, pow-succ', mul-assoc, pow-le-pow-right}
 use native.Mathlib.Omega.{arith}
 use lib.Dec.{lit<}
 use lib.ListN.{length, getD, take, drop, set, List·getD-eq-default}
@@ -134,10 +134,40 @@ stored-behind (x ∷ v) l at i h =
     let later : at < i = omega arith in
     stored-behind v (set l at x) (suc at) i (omega arith) ∙ getD-set-other l at i x 0 (ne-of-gt later)
 
--- four bytes as one number: modulo 2 ^ 24 it is the number of the first three, by 2 ^ 24 the fourth
-pub word-parts : (s : List ℕ) (at : ℕ) {a b c d word : ℕ} → a ≡ getD s at 0 → b ≡ getD s (at + 1) 0 → c ≡ getD s (at + 2) 0 → d ≡ getD s (at + 3) 0
-    → a < 256 → b < 256 → c < 256 → d < 256 → word ≡ a + 256 * b + 65536 * c + 16777216 * d → (word % 2 ^ 24 ≡ le 3 s at) × (word / 2 ^ 24 ≡ getD s (at + 3) 0)
+-- a number is that of its bytes in a row
+pub le-two : (s : List ℕ) (at j : ℕ) → j ≡ at + 1 → le 2 (getD s at 0 ∷ getD s j 0 ∷ []) 0 ≡ le 2 s at
 unfolding le
-word-parts s at ea eb ec ed ha hb hc hd w =
-    let third : getD s (at + 1 + 1) 0 ≡ getD s (at + 2) 0 = ap (λ (i : ℕ). getD s i 0) (omega arith) in
+le-two s at j e = rw e
+
+pub le-four : (s : List ℕ) (at j k l : ℕ) → j ≡ at + 1 → k ≡ at + 2 → l ≡ at + 3
+    → le 4 (getD s at 0 ∷ getD s j 0 ∷ getD s k 0 ∷ getD s l 0 ∷ []) 0 ≡ le 4 s at
+unfolding le
+le-four s at j k l ej ek el =
+    let second : k ≡ at + 1 + 1 = omega arith in
+    let third : l ≡ at + 1 + 1 + 1 = omega arith in
+    rw (ej, second, third)
+
+-- n bytes and the m after them: the number of the first, and behind it that of the others
+pub le-split : (n m : ℕ) (s : List ℕ) (at : ℕ) → le (n + m) s at ≡ le n s at + 256 ^ n * le m s (at + n)
+unfolding le
+le-split zero m s at = rw (zero-add m, add-zero at) (omega arith)
+le-split (suc n) m s at =
+    let e : suc n + m ≡ suc (n + m) = omega arith in
+    let next : at + 1 + n ≡ at + suc n = omega arith in
+    let rest : ℕ = le m s (at + suc n) in
+    let grown : 256 ^ suc n * rest ≡ 256 * (256 ^ n * rest) = ap (λ (x : ℕ). x * rest) (pow-succ' 256 n) ∙ mul-assoc 256 (256 ^ n) rest in
+    let more : le (n + m) s (at + 1) ≡ le n s (at + 1) + 256 ^ n * rest = le-split n m s (at + 1) ∙ ap (λ (j : ℕ). le n s (at + 1) + 256 ^ n * le m s j) next in
+    rw e (omega arith)
+
+-- a 64-bit number is that of its two halves
+pub le-halves : (s : List ℕ) (at j : ℕ) {low high : ℕ} → low ≡ le 4 s at → high ≡ le 4 s j → j ≡ at + 4 → low + 4294967296 * high ≡ le 8 s at
+le-halves s at j l h e = let whole = le-split 4 4 s at in rw (l, h, e) (omega arith)
+
+-- four bytes as one number: modulo 2 ^ 24 it is the number of the first three, by 2 ^ 24 the fourth
+pub word-parts : (s : List ℕ) (at : ℕ) → ((i : ℕ) → getD s i 0 < 256) → (le 4 s at % 2 ^ 24 ≡ le 3 s at) × (le 4 s at / 2 ^ 24 ≡ getD s (at + 3) 0)
+unfolding le
+word-parts s at h =
+    let low : le 3 s at < 256 ^ 3 = le-bound 3 s at h in
+    let fourth : ℕ = getD s (at + 3) 0 in
+    let whole : le 4 s at ≡ le 3 s at + 16777216 * fourth = le-split 3 1 s at ∙ omega arith in
     (omega arith, omega arith)

@@ -2,6 +2,7 @@
 //
 // No public function here has a `requires`: a byte past the end reads as 0, and a byte that would lie past
 // the end is not stored. The crates above rest on these contracts alone.
+ghost use mathlib.Core.List.{[], _∷_};
 ghost use mathlib.Core.Path.{_≡_};
 ghost use Prim.Native.Nat.{_+_, _/_, _%_, _<_, _≤_, _^_};
 ghost use lib.ListN.{length, getD};
@@ -15,11 +16,17 @@ pub fn byte_at(s: &[u8], at: usize) -> u8
     if at < s.len() { s[at] } else { 0 }
 }
 
-// The 16-bit number at a place.
+// The 16-bit number at a place. Where its bytes are all there it is one load; so are the 32-bit and the 64-bit number.
 pub fn u16_at(s: &[u8], at: usize) -> u16
     ensures { λ r. ⌜ r ≡ le 2 (now (s .entry)) at ⌝ }
 {
-    number_at(s, at, 2) as u16
+    if s.len() <= at {
+        return 0;
+    }
+    if s.len() - at < 2 {
+        return number_at(s, at, 2) as u16;
+    }
+    u16_of(s[at], s[at + 1])
 }
 
 // The 24-bit number at a place; it stays below 2 ^ 24.
@@ -35,8 +42,10 @@ pub struct U24Byte {
     pub byte: u8,
 }
 
-// 2 ^ 24.
+// 2 ^ 24 and 2 ^ 32.
 const U24_END: u32 = 16_777_216;
+
+const U32_END: u64 = 4_294_967_296;
 
 // The 24-bit number at a place and the byte after it, as a section's size and type stand. Where the 4 bytes are there it is one load.
 pub fn u24_byte_at(s: &[u8], at: usize) -> U24Byte
@@ -62,14 +71,41 @@ pub fn u24_byte_at(s: &[u8], at: usize) -> U24Byte
 pub fn u32_at(s: &[u8], at: usize) -> u32
     ensures { λ r. ⌜ r ≡ le 4 (now (s .entry)) at ⌝ }
 {
-    number_at(s, at, 4) as u32
+    if s.len() <= at {
+        return 0;
+    }
+    if s.len() - at < 4 {
+        return number_at(s, at, 4) as u32;
+    }
+    word_at(s, at)
 }
 
 // The 64-bit number at a place.
 pub fn u64_at(s: &[u8], at: usize) -> u64
     ensures { λ r. ⌜ r ≡ le 8 (now (s .entry)) at ⌝ }
 {
-    number_at(s, at, 8)
+    if s.len() <= at {
+        return 0;
+    }
+    if s.len() - at < 8 {
+        return number_at(s, at, 8);
+    }
+    wide(word_at(s, at)) + U32_END * wide(word_at(s, at + 4))
+}
+
+// The 16-bit number of two bytes, the lowest first.
+pub fn u16_of(a: u8, b: u8) -> u16
+    ensures { λ r. ⌜ r ≡ le 2 (a ∷ b ∷ []) 0 ⌝ }
+{
+    a as u16 + 256 * (b as u16)
+}
+
+// The 32-bit number of four bytes, the lowest first. The sum is written flat: nested, as a + 256 * (b + ..), bytes that stand in a row
+// become three loads and not one.
+pub fn u32_of(a: u8, b: u8, c: u8, d: u8) -> u32
+    ensures { λ r. ⌜ r ≡ le 4 (a ∷ b ∷ c ∷ d ∷ []) 0 ⌝ }
+{
+    a as u32 + 256 * (b as u32) + 65_536 * (c as u32) + U24_END * (d as u32)
 }
 
 // A 32-bit number as a 64-bit one. It stays below 2 ^ 32, so that a product of two such fits.
@@ -132,22 +168,10 @@ fn number_at(s: &[u8], at: usize, width: usize) -> u64
     value
 }
 
-// The 4 bytes at a place, which are all there, as one number. The sum is written flat: nested, as a + 256 * (b + ..), it
-// becomes three loads.
+// The 32-bit number at a place where its bytes are all there; its lowest three bytes, and the fourth.
 fn word_at(s: &[u8], at: usize) -> u32
     requires { ⌜ at + 4 ≤ length (now s) ⌝ }
-    ensures { λ r. ⌜ (r % 2 ^ 24 ≡ le 3 (now (s .entry)) at) × (r / 2 ^ 24 ≡ getD (now (s .entry)) (at + 3) 0) ⌝ }
+    ensures { λ r. ⌜ (r ≡ le 4 (now (s .entry)) at) × (r % 2 ^ 24 ≡ le 3 (now (s .entry)) at) × (r / 2 ^ 24 ≡ getD (now (s .entry)) (at + 3) 0) ⌝ }
 {
-    let a = byte(s[at]);
-    let b = byte(s[at + 1]);
-    let c = byte(s[at + 2]);
-    let d = byte(s[at + 3]);
-    a + 256 * b + 65_536 * c + U24_END * d
-}
-
-// A byte as a 32-bit number. It stays below 256, so that a sum of four fits.
-fn byte(x: u8) -> u32
-    ensures { λ r. ⌜ (r ≡ x) × (r < 256) ⌝ }
-{
-    x as u32
+    u32_of(s[at], s[at + 1], s[at + 2], s[at + 3])
 }

@@ -5,6 +5,7 @@ use crate::print::change_fields;
 use crate::print::end;
 use crate::print::field;
 use crate::print::lines_field;
+use crate::print::text;
 use crate::print::words_field;
 use crate::script::item;
 use crate::script::least;
@@ -20,6 +21,7 @@ use volume::Opening;
 use volume::State;
 use volume::Written;
 use volume::open_volume;
+use volume::word_sum;
 use volume::write_header;
 
 // The most bytes of a volume that is opened.
@@ -131,5 +133,22 @@ fn list_in(case: &[u8], volume: &[u8], room: &mut [u8]) -> usize {
             field(no as u64);
             0
         }
+    }
+}
+
+// The word sum: the bytes. It is asked for after each word, as the boot block's listing has it.
+pub(crate) fn sum_case(case: &[u8]) {
+    begin(case, b"word sum");
+    sums_field(item(case, 2));
+    end();
+}
+
+fn sums_field(s: &[u8]) {
+    text(b"\t");
+    let mut i = 0;
+    while i < s.len() {
+        i += 2;
+        io::print_hex(libc::STDOUT_FILENO, word_sum(prefix(s, i)) as u64, 4);
+        text(b",");
     }
 }

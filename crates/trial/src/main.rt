@@ -10,6 +10,7 @@ mod streams;
 use crate::calls::run_case;
 use crate::headers::list_case;
 use crate::headers::open_case;
+use crate::headers::sum_case;
 use crate::headers::write_case;
 use crate::script::item;
 use crate::script::number;
@@ -55,6 +56,7 @@ fn one_case(case: &[u8]) {
         2 => list_case(case),
         3 => run_case(case),
         4 => search_case(case),
-        _ => append_case(case),
+        5 => append_case(case),
+        _ => sum_case(case),
     }
 }

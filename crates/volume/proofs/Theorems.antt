@@ -1,6 +1,6 @@
 -- What a reader of document 01 may want to know of headers, beyond the contracts of src/: each theorem with 01's words, in 01's order. The proofs are
 -- citations; the laws stand under the module of src/ that they serve.
-use Prim.Native.Nat.{ℕ, _%_, _≤_, _<_, _^_}
+use Prim.Native.Nat.{ℕ, _+_, _-_, _*_, _/_, _%_, _≤_, _<_, _^_}
 use mathlib.Core.Path.{_≡_}
 use mathlib.Core.Bool.{false}
 use mathlib.Core.List.{List, [], _∷_}
@@ -8,16 +8,18 @@ use mathlib.Core.Option.{none, some}
 use lib.ListN.{length, getD, take}
 use Rattle.common.specs.Answers.{refused, success}
 use Rattle.common.specs.Refusals.{firstRefusal}
+use Rattle.numbers.specs.LittleEndian.{le}
 use Rattle.volume.specs.Attributes.{baseFault}
 use Rattle.volume.specs.BlockMap.{sizeFault}
 use Rattle.volume.specs.State.{stateOf, unlawful, zeroState}
-use Rattle.volume.specs.Header.{headerLengthAt, wordSum, wordModulus, stateAt, openRefusals, opens, opened, openVolume}
+use Rattle.volume.specs.Header.{headerLengthAt, wordSum, wordModulus, runningSums, stateAt, openRefusals, opens, opened, openVolume}
 use Rattle.volume.specs.HeaderWriter.{pairs, writeRefusals, wrote, writeHeader}
 use Rattle.volume.proofs.block_map.Words.{Sized}
 use Rattle.volume.proofs.header.Reading.{Agree}
 use Rattle.volume.proofs.block_map.Words as Words
 use Rattle.volume.proofs.header.Fields as Fields
 use Rattle.volume.proofs.header.Reading as Reading
+use Rattle.volume.proofs.header.Sums as Sums
 use Rattle.volume.proofs.header_writer.Stores as Stores
 use Rattle.volume.proofs.header_writer.RoundTrip as RoundTrip
 
@@ -53,6 +55,35 @@ limits = Words.size-passed
 pub opened-lawful : (v : List ℕ) (base : ℕ) → openVolume v base .answer ≡ success []
     → (unlawful (openVolume v base .state) ≡ false) × (openVolume v base .state .length ≤ length v)
 opened-lawful = Reading.opened-lawful
+
+-- ---- the word sum, line by line (02, d: "one 16-bit accumulator that wraps at each addition")
+
+-- "after each word it holds the true sum so far modulo 65,536": line k of the listing, from 0, of any byte string
+pub running-sum : (s : List ℕ) (k : ℕ) → k < length (runningSums s) → getD (runningSums s) k 0 ≡ wordSum (take (2 * (k + 1)) s) % wordModulus
+running-sum = Sums.running-is
+
+-- the same of a volume's header, in the lent bytes
+pub header-sum : (v : List ℕ) (k : ℕ) → headerLengthAt v ≤ length v → 2 * (k + 1) ≤ headerLengthAt v
+    → getD (runningSums (take (headerLengthAt v) v)) k 0 ≡ wordSum (take (2 * (k + 1)) v) % wordModulus
+header-sum = Sums.header-running
+
+-- a line for each word; an odd byte at the end is a word
+pub running-lines : (s : List ℕ) → length (runningSums s) ≡ (length s + 1) / 2
+running-lines = Sums.length-running 0
+
+-- "wraps at each addition": each line is the one before it and the word there, modulo 65,536
+pub running-step : (s : List ℕ) (k : ℕ) → k + 1 < length (runningSums s)
+    → getD (runningSums s) (k + 1) 0 ≡ (getD (runningSums s) k 0 + le 2 s (2 * (k + 1))) % wordModulus
+running-step = Sums.running-next
+
+-- the last line is what `word_sum` answers, what 105 tests, and what the checksum brings to 0
+pub last-sum : (s : List ℕ) → 0 < length s → getD (runningSums s) (length (runningSums s) - 1) 0 ≡ wordSum s % wordModulus
+last-sum = Sums.running-last
+
+-- so the last line of a header that opens is 0
+pub opened-last-sum : (v : List ℕ) (base : ℕ) → openVolume v base .answer ≡ success []
+    → let sums = runningSums (take (headerLengthAt v) v) in getD sums (length sums - 1) 0 ≡ 0
+opened-last-sum = Reading.opened-zero
 
 -- ---- writing a header
 

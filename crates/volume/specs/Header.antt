@@ -78,6 +78,16 @@ wordSum [] = 0
 wordSum (a ∷ []) = a
 wordSum (a ∷ b ∷ rest) = a + 256 * b + wordSum rest
 
+-- "one 16-bit accumulator that wraps at each addition" (02, d): its values from `sum` on, one after each word, as the boot block's listing has
+-- them. 105 and the checksum go by the true sum; that the two agree after every word is `running-sum` (proofs/Theorems)
+unfoldable pub runningSumsFrom : ℕ → List ℕ → List ℕ
+runningSumsFrom sum [] = []
+runningSumsFrom sum (a ∷ []) = (sum + a) % wordModulus ∷ []
+runningSumsFrom sum (a ∷ b ∷ rest) = let next = (sum + (a + 256 * b)) % wordModulus in next ∷ runningSumsFrom next rest
+
+abbrev pub runningSums : List ℕ → List ℕ
+runningSums s = runningSumsFrom 0 s
+
 -- ---- opening
 
 -- GUID, length, attributes and map as the header has them, and the base given

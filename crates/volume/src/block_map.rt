@@ -26,21 +26,27 @@ pub(crate) fn header_length(n: usize) -> usize
     EMPTY_HEADER + ENTRY_LENGTH * n
 }
 
-// Whether some word is zero.
+// Whether some word is zero. The words are gathered without a way out of the loop, so that it compiles to vector code.
 pub(crate) fn has_zero(words: &[u32]) -> bool
     ensures { λ r. ⌜ r ≡ hasZero (now (words .entry)) ⌝ }
 {
+    let mut found: u32 = 0;
     let mut i = 0;
     while i < words.len() {
-        if words[i] == 0 {
-            return true;
-        }
+        found = found | zero_mark(words[i]);
         i += 1;
     }
-    false
+    found != 0
 }
 
-// Whether every word is zero. The words are gathered without a way out of the loop, so that it compiles to vector code.
+// 1 for a zero word, 0 for any other.
+fn zero_mark(word: u32) -> u32
+    ensures { λ r. ⌜ eqb r 0 ≡ not (eqb word 0) ⌝ }
+{
+    if word == 0 { 1 } else { 0 }
+}
+
+// Whether every word is zero. The words are gathered as above.
 pub(crate) fn all_zero(words: &[u32]) -> bool
     ensures { λ r. ⌜ r ≡ allZero (now (words .entry)) ⌝ }
 {

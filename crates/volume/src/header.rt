@@ -1,13 +1,13 @@
 // The volume header: opening a volume.
 ghost use mathlib.Core.Path.{_≡_};
-ghost use mathlib.Core.List.{_++_};
-ghost use Prim.Native.Nat.{_-_, _*_, _≤_};
-ghost use lib.ListN.{length, take, drop, replicate};
+ghost use mathlib.Core.List.{List, _++_};
+ghost use Prim.Native.Nat.{ℕ, _+_, _*_, _%_, _≤_};
+ghost use lib.ListN.{length, take, drop};
 ghost use Rattle.common.specs.Answers.{refused};
 ghost use Rattle.common.specs.Refusals.{firstRefusal};
-ghost use Rattle.volume.specs.Header.{headerLengthAt, headerLengthFault, mapStart, maxHeader, openRefusals, openVolume, openingAnswer, opens, refusalOf, stateAt, wordSum, wordsAt};
-ghost use Rattle.volume.specs.BlockMap.{emptyHeader, entryLength, maxEntries};
-ghost use Rattle.volume.specs.State.{zeroState};
+ghost use Rattle.volume.specs.Header.{headerLengthAt, headerLengthFault, mapStart, openRefusals, openVolume, openingAnswer, opens, refusalOf, wordModulus, wordSum, wordsAt};
+ghost use Rattle.volume.specs.BlockMap.{entryLength};
+ghost use Rattle.volume.specs.State.{stateWith, zeroState};
 use crate::attributes::attributes_fault;
 use crate::attributes::base_fault;
 use crate::block_map::EMPTY_HEADER;
@@ -16,6 +16,7 @@ use crate::block_map::has_zero;
 use crate::block_map::map_fault;
 use crate::state::State;
 use crate::state::state_with;
+use std::num::wrapping_add_u16;
 
 // "_FVH", as the little-endian number of its bytes.
 pub const SIGNATURE: u32 = 0x4856465F;
@@ -44,9 +45,6 @@ const SHORTEST_HEADER: usize = 72;
 
 const LONGEST_HEADER: usize = 320;
 
-// A header's word sum counts modulo this.
-pub(crate) const WORD_MODULUS: u64 = 65536;
-
 // What opening answers: success, or the refusal's number in document 01 (101 to 110).
 pub enum Opening {
     Success,
@@ -68,14 +66,19 @@ pub fn open_volume(volume: &[u8], base: u64) -> Opened
     if let Opening::Refused(n) = early {
         return refuse(n);
     }
-    let state = state_at(volume, base);
-    let late = fields_refusal(volume, state);
+    let entries = (numbers::u16_at(volume, HEADER_LENGTH) as usize - EMPTY_HEADER) / ENTRY_LENGTH;
+    let length = numbers::u64_at(volume, LENGTH);
+    let attributes = numbers::u32_at(volume, ATTRIBUTES);
+    let mut map = [0u32; 64];
+    read_map(volume, entries, &mut map);
+    let late = fields_refusal(volume, length, attributes, base, entries, &map);
     if let Opening::Refused(n) = late {
         return refuse(n);
     }
+    let guid = guid_at(volume);
     Opened {
         answer: Opening::Success,
-        state,
+        state: state_with(guid, length, attributes, base, entries, map),
     }
 }
 
@@ -106,20 +109,26 @@ fn bytes_refusal(s: &[u8]) -> Opening
     if header_length_fault(header, s.len()) {
         return Opening::Refused(104);
     }
-    if word_sum(&s[..header]) % WORD_MODULUS != 0 {
+    if word_sum(&s[..header]) != 0 {
         return Opening::Refused(105);
     }
     Opening::Success
 }
 
-// The table's other rows, 106 to 110, with what the state would be.
-fn fields_refusal(s: &[u8], st: State) -> Opening
-    requires { ⌜ (2 * st .entries ≤ 2 * maxEntries) × (entryLength ≤ headerLengthAt (now s)) ⌝ }
-    ensures { λ r. ⌜ refusalOf r ≡ firstRefusal (drop 5 (openRefusals (now (s .entry)) st)) ⌝ }
+// The table's other rows, 106 to 110, with the parts of what the state would be. The GUID has no part in them. The map is lent, so that
+// no state is copied to ask this.
+fn fields_refusal(
+    s: &[u8],
+    len: u64,
+    attributes: u32,
+    base: u64,
+    entries: usize,
+    map: &[u32],
+) -> Opening
+    requires { ⌜ (2 * entries ≤ length (now map)) × (entryLength ≤ headerLengthAt (now s)) ⌝ }
+    ensures { λ r. ⌜ ((guid : List ℕ) → refusalOf r ≡ firstRefusal (drop 5 (openRefusals (now (s .entry)) (stateWith guid len attributes base entries (now (map .entry)))))) ⌝ }
 {
-    let n = st.entries;
-    let map = st.map;
-    let end = 2 * n;
+    let end = 2 * entries;
     let closing = numbers::u16_at(s, HEADER_LENGTH) as usize - ENTRY_LENGTH;
     if has_zero(&map[..end]) {
         return Opening::Refused(106);
@@ -127,16 +136,16 @@ fn fields_refusal(s: &[u8], st: State) -> Opening
     if numbers::u64_at(s, closing) != 0 {
         return Opening::Refused(106);
     }
-    if map_fault(n, &map[..end], st.length) {
+    if map_fault(entries, &map[..end], len) {
         return Opening::Refused(107);
     }
-    if attributes_fault(st.attributes) {
+    if attributes_fault(attributes) {
         return Opening::Refused(108);
     }
-    if (s.len() as u64) < st.length {
+    if (s.len() as u64) < len {
         return Opening::Refused(109);
     }
-    if base_fault(st.attributes, st.base) {
+    if base_fault(attributes, base) {
         return Opening::Refused(110);
     }
     Opening::Success
@@ -158,36 +167,20 @@ fn header_length_fault(header: usize, lent: usize) -> bool
     lent < header
 }
 
-// The sum of a header's 16-bit words.
-pub(crate) fn word_sum(s: &[u8]) -> u64
-    requires { ⌜ length (now s) ≤ maxHeader ⌝ }
-    ensures { λ r. ⌜ r ≡ wordSum (now (s .entry)) ⌝ }
+// The sum of the 16-bit words of a byte string, modulo 65,536. As in the boot block's listing it is one accumulator of 16 bits that wraps
+// at each addition: load the word, add, next. An odd byte at the end is the low byte of a last word; a header has none.
+pub fn word_sum(s: &[u8]) -> u16
+    ensures { λ r. ⌜ r ≡ wordSum (now (s .entry)) % wordModulus ⌝ }
 {
-    let mut sum: u64 = 0;
+    let mut sum: u16 = 0;
     let mut i = 0;
-    while i < s.len() {
-        sum += numbers::u16_at(s, i) as u64;
+    while 1 < s.len() - i {
+        let low = s[i];
+        let high = s[i + 1];
+        sum = wrapping_add_u16(sum, numbers::u16_of(low, high));
         i += 2;
     }
-    sum
-}
-
-// The state that a header and a base give.
-fn state_at(s: &[u8], base: u64) -> State
-    requires { ⌜ (32 ≤ length (now s)) × (emptyHeader ≤ headerLengthAt (now s)) × (headerLengthAt (now s) ≤ maxHeader) ⌝ }
-    ensures { λ r. ⌜ r ≡ stateAt (now (s .entry)) base ⌝ }
-{
-    let entries = (numbers::u16_at(s, HEADER_LENGTH) as usize - EMPTY_HEADER) / ENTRY_LENGTH;
-    let guid = guid_at(s);
-    let map = map_at(s, entries);
-    state_with(
-        guid,
-        numbers::u64_at(s, LENGTH),
-        numbers::u32_at(s, ATTRIBUTES),
-        base,
-        entries,
-        map,
-    )
+    wrapping_add_u16(sum, numbers::u16_at(s, i))
 }
 
 // The file system GUID, bytes 16 to 31.
@@ -204,16 +197,15 @@ fn guid_at(s: &[u8]) -> [u8; 16]
     guid
 }
 
-// The words of n map entries, from byte 56 on, and zeros beyond them.
-fn map_at(s: &[u8], n: usize) -> [u32; 64]
-    requires { ⌜ n ≤ maxEntries ⌝ }
-    ensures { λ r. ⌜ r ≡ wordsAt (2 * n) (now (s .entry)) mapStart ++ replicate (64 - 2 * n) 0 ⌝ }
+// Stores the words of n map entries, from byte 56 on, at the start of a map. The rest of it stays.
+fn read_map(s: &[u8], n: usize, map: &mut [u32])
+    requires { ⌜ (mapStart + entryLength * n ≤ length (now s)) × (2 * n ≤ length (now map)) ⌝ }
+    ensures { λ _. ⌜ now (map .exit) ≡ wordsAt (2 * n) (now (s .entry)) mapStart ++ drop (2 * n) (now (map .entry)) ⌝ }
 {
-    let mut map = [0u32; 64];
     let mut i = 0;
     while i < 2 * n {
-        map[i] = numbers::u32_at(s, BLOCK_MAP + 4 * i);
+        let at = BLOCK_MAP + 4 * i;
+        map[i] = numbers::u32_of(s[at], s[at + 1], s[at + 2], s[at + 3]);
         i += 1;
     }
-    map
 }

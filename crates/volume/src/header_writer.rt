@@ -21,8 +21,8 @@ use crate::header::LENGTH;
 use crate::header::RESERVED;
 use crate::header::SIGNATURE;
 use crate::header::SIGNATURE_PLACE;
-use crate::header::WORD_MODULUS;
 use crate::header::word_sum;
+use std::num::wrapping_sub_u16;
 
 // Three reserved zeros, then revision 1, as one little-endian number.
 const RESERVED_AND_REVISION: u64 = 0x0100_0000;
@@ -64,8 +64,8 @@ pub fn write_header(
     }
     store_fields(guid, len, attributes, header, room);
     store_map(map, room);
-    let sum = word_sum(&room[..header]) % WORD_MODULUS;
-    numbers::store(room, CHECKSUM, 2, (WORD_MODULUS - sum) % WORD_MODULUS);
+    let sum = word_sum(&room[..header]);
+    numbers::store(room, CHECKSUM, 2, wrapping_sub_u16(0, sum) as u64);
     Written::Success(header)
 }
 

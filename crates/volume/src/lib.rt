@@ -12,6 +12,7 @@ pub mod state;
 pub use crate::header::Opened;
 pub use crate::header::Opening;
 pub use crate::header::open_volume;
+pub use crate::header::word_sum;
 pub use crate::header_writer::Written;
 pub use crate::header_writer::write_header;
 pub use crate::state::State;

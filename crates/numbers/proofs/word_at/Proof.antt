@@ -1,87 +1,53 @@
--- `numbers::word_at` meets its contract: its four bytes are a 24-bit number and the byte after it.
+-- `numbers::word_at` meets its contract: the number of its four bytes, of which the lowest three are a number and the fourth a byte.
+use mathlib.Core.Path.{refl, _∙_}
+use native.Mathlib.Omega.{arith}
+use denote.Ref.{now}
+use Rattle.numbers.proofs.LittleEndian.{le-four, word-parts}
 use borrow.Author.Needs.{needs}
-use Rattle.numbers.proofs.LittleEndian.{word-parts}
 use Rattle.numbers.proofs.word_at.Statement.{statement}
 use Rattle.numbers.proofs.word_at.Tie as tie
 
-shared-slice-read-byte : tie.Need-shared-slice-read-byte
-shared-slice-read-byte c = search needs
+shared-slice-read-u32-of : tie.Need-shared-slice-read-u32-of
+shared-slice-read-u32-of c = search needs
 
-byte-requires : tie.Need-byte-requires
-byte-requires c κs = search needs
+add-u32-of : tie.Need-add-u32-of
+add-u32-of c = search needs
 
-add-byte : tie.Need-add-byte
-add-byte c = search needs
+shared-slice-read-u32-of-2 : tie.Need-shared-slice-read-u32-of-2
+shared-slice-read-u32-of-2 c = search needs
 
-shared-slice-read-byte-2 : tie.Need-shared-slice-read-byte-2
-shared-slice-read-byte-2 c = search needs
+add-u32-of-2 : tie.Need-add-u32-of-2
+add-u32-of-2 c = search needs
 
-byte-requires-2 : tie.Need-byte-requires-2
-byte-requires-2 c κs = search needs
+shared-slice-read-u32-of-3 : tie.Need-shared-slice-read-u32-of-3
+shared-slice-read-u32-of-3 c = search needs
 
-add-byte-2 : tie.Need-add-byte-2
-add-byte-2 c = search needs
+add-u32-of-3 : tie.Need-add-u32-of-3
+add-u32-of-3 c = search needs
 
-shared-slice-read-byte-3 : tie.Need-shared-slice-read-byte-3
-shared-slice-read-byte-3 c = search needs
+shared-slice-read-u32-of-4 : tie.Need-shared-slice-read-u32-of-4
+shared-slice-read-u32-of-4 c = search needs
 
-byte-requires-3 : tie.Need-byte-requires-3
-byte-requires-3 c κs = search needs
-
-add-byte-3 : tie.Need-add-byte-3
-add-byte-3 c = search needs
-
-shared-slice-read-byte-4 : tie.Need-shared-slice-read-byte-4
-shared-slice-read-byte-4 c = search needs
-
-byte-requires-4 : tie.Need-byte-requires-4
-byte-requires-4 c κs = search needs
-
-mul-result : tie.Need-mul-result
-mul-result c = search needs
-
-add-result : tie.Need-add-result
-add-result c = search needs
-
-mul-result-2 : tie.Need-mul-result-2
-mul-result-2 c = search needs
-
-add-result-2 : tie.Need-add-result-2
-add-result-2 c = search needs
-
-mul-result-3 : tie.Need-mul-result-3
-mul-result-3 c = search needs
-
-add-result-3 : tie.Need-add-result-3
-add-result-3 c = search needs
+u32-of-requires : tie.Need-u32-of-requires
+u32-of-requires c κs = search needs
 
 returns : tie.Need-returns
 returns c =
-    let third = c .before .before in
-    let second = third .before .before in
-    let first = second .before .before in
-    word-parts _ _ (first .byte .ensures .0) (second .byte2 .ensures .0) (third .byte3 .ensures .0) (c .byte4 .ensures .0)
-    (first .byte .ensures .1) (second .byte2 .ensures .1) (third .byte3 .ensures .1) (c .byte4 .ensures .1) (search needs)
+    let a = c .before .before .before .before .before .before .args in
+    let number = c .u32-of .ensures ∙ le-four (now (a .s)) (a .at) _ _ _ (omega arith) (omega arith) (omega arith) in
+    let parts = word-parts (now (a .s)) (a .at) (λ i. omega (arith, c .before .shared-slice-known5 .given i)) in
+    rw number (refl, parts .0, parts .1)
 
 pub word-at-spec : {M : Type 1} → statement M
 word-at-spec =
     tie.close
     (tie.spec
-    shared-slice-read-byte
-    byte-requires
-    add-byte
-    shared-slice-read-byte-2
-    byte-requires-2
-    add-byte-2
-    shared-slice-read-byte-3
-    byte-requires-3
-    add-byte-3
-    shared-slice-read-byte-4
-    byte-requires-4
-    mul-result
-    add-result
-    mul-result-2
-    add-result-2
-    mul-result-3
-    add-result-3
+    shared-slice-read-u32-of
+    add-u32-of
+    shared-slice-read-u32-of-2
+    add-u32-of-2
+    shared-slice-read-u32-of-3
+    add-u32-of-3
+    shared-slice-read-u32-of-4
+    u32-of-requires
     returns)

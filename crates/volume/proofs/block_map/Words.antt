@@ -1,7 +1,7 @@
 -- Laws of a block map's words: one entry at a time, for the loops over them, and what breaks rule 107.
 use Prim.Native.Nat.{ℕ, zero, suc, _+_, _*_, _≤_, _<_, _^_}
 use mathlib.Core.Path.{_≡_, refl}
-use mathlib.Core.Bool.{Bool, true, false, not, _&&_, _||_, or-true, and-true, and-assoc}
+use mathlib.Core.Bool.{Bool, true, false, not, _&&_, _||_, or-true, or-false, and-true, and-assoc}
 use mathlib.Core.List.{List}
 use native.Mathlib.Nat.{mul-le-mul, mul-zero, zero-mul, suc-mul, pos-of-ne-zero}
 use native.Mathlib.Numerals.{add-one}
@@ -109,14 +109,6 @@ pub too-many-entries : (n : ℕ) (w : List ℕ) (len : ℕ) → maxEntries < n �
 unfolding sizeFault any
 too-many-entries n w len h = rw (lt-ltb maxEntries n h, or-true)
 
-pub hasZero-here : (w : List ℕ) (i : ℕ) → i < length w → getD w i 0 ≡ 0 → true ≡ hasZero (drop i w)
-unfolding hasZero
-hasZero-here w i h z = rw (drop-cons w i 0 h, z)
-
-pub hasZero-next : (w : List ℕ) (i : ℕ) → i < length w → (getD w i 0 ≡ 0 → ⊥) → hasZero (drop i w) ≡ hasZero (drop (i + 1) w)
-unfolding hasZero
-hasZero-next w i h z = rw (add-one, drop-cons w i 0 h, ne-eqb (getD w i 0) 0 z)
-
 pub hasZero-end : (w : List ℕ) (i : ℕ) → length w ≤ i → false ≡ hasZero (drop i w)
 unfolding hasZero
 hasZero-end w i h = rw (drop-of-length-le w {i = i} h)
@@ -135,3 +127,18 @@ gathered-next w i g h = rw (add-one, drop-cons w i 0 h, gathered-zero g (getD w 
 pub gathered-end : (w : List ℕ) (i g : ℕ) → length w ≤ i → (eqb g 0 && allZero (drop i w)) ≡ eqb g 0
 unfolding allZero
 gathered-end w i g h = rw (drop-of-length-le w {i = i} h, and-true)
+
+-- marks gathered by OR: one is found exactly where some word passed is zero
+pub found-next : (w : List ℕ) (i g mark : ℕ) → i < length w → eqb mark 0 ≡ not (eqb (getD w i 0) 0)
+    → (not (eqb (bitOr g mark) 0) || hasZero (drop (i + 1) w)) ≡ (not (eqb g 0) || hasZero (drop i w))
+unfolding hasZero
+found-next w i g mark h e = rw (add-one, drop-cons w i 0 h, gathered-zero g mark, e) (go (eqb g 0) (eqb (getD w i 0) 0))
+  where
+    go : (a b : Bool) → (not (a && not b) || hasZero (drop (suc i) w)) ≡ (not a || (b || hasZero (drop (suc i) w)))
+    go true true = refl
+    go true false = refl
+    go false b = refl
+
+pub found-end : (w : List ℕ) (i g : ℕ) → length w ≤ i → (not (eqb g 0) || hasZero (drop i w)) ≡ not (eqb g 0)
+unfolding hasZero
+found-end w i g h = rw (drop-of-length-le w {i = i} h, or-false)

@@ -8,16 +8,15 @@ use native.Mathlib.Nat.{add-zero, mul-zero}
 use native.Mathlib.Omega.{arith}
 use borrow.Author.Tests.{ltb-true, ltb-false, eqb-true, not-false}
 use lib.Dec.{eqb, ltb}
-use lib.ListN.{length, getD, take, drop, drop-of-length-le, List·getD-eq-default}
-use lib.Seq.{drop-cons}
+use lib.ListN.{length, getD, take, drop, replicate}
 use Rattle.common.specs.Answers.{refused, success}
 use Rattle.common.specs.Refusals.{Row, firstRefusal, unlessRefused}
 use Rattle.common.proofs.Refusals.{any-passed, row-passed, then-passed, then-refused}
-use Rattle.common.proofs.Lists.{drop-two}
-use Rattle.numbers.specs.LittleEndian.{le, leBytes}
+use Rattle.common.proofs.Lists.{drop-zeros}
+use Rattle.numbers.specs.LittleEndian.{le}
 use Rattle.volume.specs.BlockMap.{maxEntries}
 use Rattle.volume.specs.State.{stateWith, stateOf, zeroState}
-use Rattle.volume.specs.Header.{headerLengthAt, wordsAt, wordSum, stateAt, headerLengthFault, minHeader, maxHeader, openRefusals, Opens, opens, opened, openVolume}
+use Rattle.volume.specs.Header.{guidAt, lengthAt, attributesAt, headerLengthAt, entriesOf, mapStart, wordModulus, wordSum, wordsAt, stateAt, headerLengthFault, minHeader, maxHeader, openRefusals, Opens, opens, opened, openVolume}
 use Rattle.volume.specs.declared.state.State.{State}
 
 -- k words, and the word at place i of them
@@ -34,34 +33,6 @@ wordsAt-at (suc k) s at (suc i) h =
     let e : at + 4 + 4 * i ≡ at + 4 * suc i = omega arith in
     wordsAt-at k s (at + 4) i (omega arith) ∙ ap (λ (x : ℕ). le 4 s x) e
 
--- a word of the sum, and the rest of it
-pub wordSum-next : (s : List ℕ) (i : ℕ) → i < length s → wordSum (drop i s) ≡ le 2 s i + wordSum (drop (i + 2) s)
-unfolding wordSum le
-wordSum-next s i h = go (ltb (i + 1) (length s)) refl
-  where
-    go : (t : Bool) → ltb (i + 1) (length s) ≡ t → wordSum (drop i s) ≡ le 2 s i + wordSum (drop (i + 2) s)
-    go true e = rw (drop-two s i (ltb-true (i + 1) (length s) e)) (omega arith)
-    go false e =
-        let past : length s ≤ i + 1 = ltb-false (i + 1) (length s) e in
-        let z : drop (suc i) s ≡ [] = drop-of-length-le s {i = suc i} (omega arith) in
-        rw (drop-cons s i 0 h, z, List·getD-eq-default s 0 {n = i + 1} past, drop-of-length-le s {i = i + 2} (omega arith)) (omega arith)
-
-pub wordSum-end : (s : List ℕ) (i : ℕ) → length s ≤ i → wordSum (drop i s) ≡ 0
-unfolding wordSum
-wordSum-end s i h = rw (drop-of-length-le s {i = i} h)
-
--- of a string of whole words and another, the sums add up
-pub wordSum-append : (p q : List ℕ) → length p % 2 ≡ 0 → wordSum (p ++ q) ≡ wordSum p + wordSum q
-unfolding wordSum
-wordSum-append [] q h = omega arith
-wordSum-append (a ∷ []) q h = omega arith
-wordSum-append (a ∷ b ∷ p) q h = rw (wordSum-append p q (omega arith)) (omega arith)
-
--- two bytes in front are one word
-pub wordSum-two : (x : ℕ) (b : List ℕ) → wordSum (leBytes 2 x ++ b) ≡ x % 256 + 256 * (x / 256 % 256) + wordSum b
-unfolding wordSum leBytes
-wordSum-two x b = refl
-
 -- ---- opening
 
 -- the rows 101 to 105 of opening's table, which no state enters, and 106 to 110
@@ -75,13 +46,14 @@ pub rows-split : (s : List ℕ) (st : State) → openRefusals s st ≡ bytesRefu
 unfolding openRefusals
 rows-split s st = refl
 
--- what bytes that pass 101 to 104 are known to hold
+-- what bytes that pass 101 to 105 are known to hold
 pub record Readable (s : List ℕ) : Type 0 where
   pub long : minHeader ≤ length s
   pub least : minHeader ≤ headerLengthAt s
   pub most : headerLengthAt s ≤ maxHeader
   pub within : headerLengthAt s ≤ length s
   pub whole : headerLengthAt s % 8 ≡ 0
+  pub summed : wordSum (take (headerLengthAt s) s) % wordModulus ≡ 0
 
 pub header-length-passed : (h lent : ℕ) → headerLengthFault h lent ≡ false → (minHeader ≤ h) × (h ≤ maxHeader) × (h ≤ lent) × (h % 8 ≡ 0)
 unfolding headerLengthFault
@@ -99,8 +71,22 @@ readable s p =
     let r2 = row-passed _ _ (r1 .1) in
     let r3 = row-passed _ _ (r2 .1) in
     let r4 = row-passed _ _ (r3 .1) in
+    let r5 = row-passed _ _ (r4 .1) in
     let h = header-length-passed (headerLengthAt s) (length s) (r4 .0) in
-    record { long = ltb-false (length s) minHeader (r1 .0); least = h .0; most = h .1; within = h .2; whole = h .3 }
+    record {
+      long = ltb-false (length s) minHeader (r1 .0);
+      least = h .0;
+      most = h .1;
+      within = h .2;
+      whole = h .3;
+      summed = eqb-true (wordSum (take (headerLengthAt s) s) % wordModulus) 0 (not-false _ (r5 .0));
+    }
+
+-- the parts that opening reads, the map's words stored over 64 zeros, make the state
+pub state-parts : (s : List ℕ) (base : ℕ) {len a n : ℕ} {map : List ℕ} → len ≡ lengthAt s → a ≡ attributesAt s → n ≡ entriesOf (headerLengthAt s)
+    → map ≡ wordsAt (2 * n) s mapStart ++ drop (2 * n) (replicate 64 0) → stateWith (guidAt s) len a base n map ≡ stateAt s base
+unfolding stateAt stateOf
+state-parts s base {n = n} l a e m = rw (l, a, m, drop-zeros (2 * n) 64, e)
 
 -- a readable header's state keeps the limit of entries
 pub entries-bound : (s : List ℕ) (base : ℕ) → Readable s → 2 * stateAt s base .entries ≤ 2 * maxEntries

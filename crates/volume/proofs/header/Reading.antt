@@ -8,7 +8,7 @@ use native.Mathlib.Omega.{arith}
 use borrow.Author.Tests.{le-ltb, eq-eqb, ne-eqb, ltb-false}
 use lib.Dec.{eqb}
 use lib.ListN.{length, getD, take, drop, replicate, length-take, length-drop}
-use lib.Seq.{ext-getD, getD-take, getD-drop, take-at, drop-at}
+use lib.Seq.{ext-getD, getD-take, getD-drop, length-take-le, take-at, drop-at}
 use Rattle.common.specs.Answers.{refused, success}
 use Rattle.common.specs.Refusals.{firstRefusal, unlessRefused, any}
 use Rattle.common.proofs.Refusals.{row-passed, then-passed, then-refused, front-passed, neither}
@@ -17,9 +17,10 @@ use Rattle.numbers.proofs.LittleEndian.{le-same}
 use Rattle.volume.specs.Attributes.{attributesFault, baseFault}
 use Rattle.volume.specs.BlockMap.{hasZero, allZero, sizeFault}
 use Rattle.volume.specs.State.{stateWith, stateOf, zeroState, mapOf, unlawful}
-use Rattle.volume.specs.Header.{signature, headerLengthAt, wordsAt, wordSum, stateAt, headerLengthFault, mapFault, openRefusals, opens, opened, openVolume, wordModulus}
+use Rattle.volume.specs.Header.{signature, headerLengthAt, wordsAt, wordSum, runningSums, stateAt, headerLengthFault, mapFault, openRefusals, opens, opened, openVolume, wordModulus}
 use Rattle.volume.specs.declared.state.State.{State}
 use Rattle.volume.proofs.header.Fields.{bytesRefusals, fieldsRefusals, rows-split, length-wordsAt, readable, open-success, opened-passed}
+use Rattle.volume.proofs.header.Sums.{running-last}
 use Rattle.volume.proofs.block_map.Words.{size-passed}
 
 -- two byte strings agree from place a up to place b
@@ -121,6 +122,13 @@ header-only v w base e least whole =
 pub reserved-ignored : (v w : List ℕ) (base : ℕ) → length v ≡ length w → Agree v w 16 50 → Agree v w 55 72 → Agree v w 55 (headerLengthAt v)
     → wordSum (take (headerLengthAt v) v) % wordModulus ≡ 0 → wordSum (take (headerLengthAt v) w) % wordModulus ≡ 0 → openVolume v base ≡ openVolume w base
 reserved-ignored v w base e front least back p q = open-same v w base e front least back (rw (p, q))
+
+-- where opening succeeds the accumulator's last value is 0
+pub opened-zero : (v : List ℕ) (base : ℕ) → openVolume v base .answer ≡ success []
+    → let sums = runningSums (take (headerLengthAt v) v) in getD sums (length sums - 1) 0 ≡ 0
+opened-zero v base e =
+    let r = readable v (front-passed (bytesRefusals v) (fieldsRefusals v (stateAt v base)) (rw (rows-split v (stateAt v base)) at (opened-passed v base e))) in
+    running-last (take (headerLengthAt v) v) (omega (arith, length-take-le (headerLengthAt v) v (r .within))) ∙ r .summed
 
 -- what a volume's bytes must hold to open to these values
 pub record Holds (v guid : List ℕ) (len a n : ℕ) (words : List ℕ) : Type 0 where

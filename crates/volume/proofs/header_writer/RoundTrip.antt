@@ -20,7 +20,7 @@ use Rattle.volume.specs.State.{stateOf}
 use Rattle.volume.specs.Header.{signature, headerLengthAt, opened, wordModulus, wordsAt, wordSum, openVolume}
 use Rattle.volume.specs.HeaderWriter.{pairs, wordsBytes, headerFront, headerWith, headerBytes, reservedAndRevision, checksum, wordsFault, writeRefusals, HeaderWritten, wrote, writeHeader}
 use Rattle.volume.proofs.block_map.Words.{Sized, size-passed}
-use Rattle.volume.proofs.header.Fields.{wordSum-append, wordSum-two}
+use Rattle.volume.proofs.header.Sums.{wordSum-append, wordSum-two}
 use Rattle.volume.proofs.header_writer.Stores.{length-wordsBytes, length-front, length-header}
 use Rattle.volume.proofs.header.Reading.{Holds, opens-to}
 

@@ -43,7 +43,7 @@ measured : (c : tie.Else4) → let s = bytes (one (two (three c))) in headerLeng
 measured c = rw (c .before .before .u16-at .ensures) at (sym (c .before .header-length-fault .ensures) ∙ c .if4 .left)
 
 abbrev sum : tie.After-word-sum → ℕ
-sum c = let s = bytes (one (two (three (c .before .before)))) in wordSum (take (headerLengthAt s) s)
+sum c = let s = bytes (one (two (three (c .before .before)))) in wordSum (take (headerLengthAt s) s) % wordModulus
 
 summed : (c : tie.After-word-sum) → c .word-sum .result ≡ sum c
 summed c = rw (c .before .before .before .before .u16-at .ensures) at (c .word-sum .ensures)
@@ -94,10 +94,7 @@ slice-aggregate-word-sum c =
     sym (length-take-le _ _ (header-length-passed _ _ (sym (behind .before .header-length-fault .ensures) ∙ behind .if4 .left) .2))
 
 word-sum-requires : tie.Need-word-sum-requires
-word-sum-requires c κs =
-    let behind = c .before in
-    let h = header-length-passed _ _ (sym (behind .before .header-length-fault .ensures) ∙ behind .if4 .left) in
-    rw (length-take-le _ _ (h .2)) (h .1)
+word-sum-requires c κs = search needs
 
 returns-5 : tie.Need-returns-5
 unfolding refusalOf firstRefusal openRefusals
@@ -108,7 +105,7 @@ returns-5 c =
       signed (two (three behind)),
       revised (three behind),
       measured behind,
-      ne-eqb (sum (c .before) % wordModulus) 0 (λ e. omega (arith, summed (c .before))),
+      ne-eqb (sum (c .before)) 0 (λ e. omega (arith, summed (c .before))),
     )
 
 returns-6 : tie.Need-returns-6
@@ -120,7 +117,7 @@ returns-6 c =
       signed (two (three behind)),
       revised (three behind),
       measured behind,
-      eq-eqb (sum (c .before) % wordModulus) 0 (omega (arith, summed (c .before))),
+      eq-eqb (sum (c .before)) 0 (omega (arith, summed (c .before))),
     )
 
 pub bytes-refusal-spec : {M : Type 1} → statement M

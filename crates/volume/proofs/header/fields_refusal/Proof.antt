@@ -1,5 +1,5 @@
 -- `volume::header::fields_refusal` meets its contract: each return is the first row of the table whose test holds.
-use Prim.Native.Nat.{ℕ, _-_}
+use Prim.Native.Nat.{ℕ, _-_, _*_}
 use mathlib.Core.Path.{_≡_, sym, _∙_}
 use mathlib.Core.Bool.{false}
 use mathlib.Core.List.{List}
@@ -7,23 +7,19 @@ use native.Mathlib.Omega.{arith}
 use borrow.Author.Tests.{eq-eqb, ne-eqb, lt-ltb, le-ltb}
 use borrow.Author.Needs.{needs}
 use denote.Ref.{now}
-use lib.ListN.{length}
+use lib.ListN.{take}
 use lib.Seq.{length-take-le}
 use Rattle.common.specs.Refusals.{firstRefusal}
 use Rattle.numbers.specs.LittleEndian.{le}
 use Rattle.volume.specs.Attributes.{attributesFault}
 use Rattle.volume.specs.BlockMap.{hasZero, sizeFault}
-use Rattle.volume.specs.State.{mapOf}
+use Rattle.volume.specs.State.{stateWith, mapOf}
 use Rattle.volume.specs.Header.{headerLengthAt, openRefusals, mapFault, refusalOf}
 use Rattle.volume.specs.declared.state.State.{State}
 use Rattle.volume.proofs.header.fields_refusal.Statement.{statement}
 use Rattle.volume.proofs.header.fields_refusal.Tie as tie
 
--- the map is an array of 64 words
-map-length : (c : tie.Start) → length (c .args .st .map) ≡ 64
-map-length c = search needs
-
--- the places behind each test, one from the next; the state and the bytes
+-- the places behind each test, one from the next
 abbrev one : tie.Else2 → tie.Else1
 one c = c .before .before
 
@@ -36,15 +32,18 @@ three c = c .before .before
 abbrev start : tie.Else1 → tie.Start
 start c = c .before .before .before .before .before .before
 
-abbrev state : tie.Else1 → State
-state c = start c .args .st
-
+-- the bytes, the words of the map's entries, and the state that these parts and a GUID make
 abbrev bytes : tie.Else1 → List ℕ
 bytes c = now (start c .args .s)
 
+abbrev words : tie.Else1 → List ℕ
+words c = take (2 * start c .args .entries) (now (start c .args .map))
+
+abbrev state : tie.Else1 → List ℕ → State
+state c guid = let a = start c .args in stateWith guid (a .len) (a .attributes) (a .base) (a .entries) (now (a .map))
+
 -- the tests that each next one stands behind, as the table has them
-nonzero : (c : tie.Else1) → hasZero (mapOf (state c)) ≡ false
-unfolding mapOf
+nonzero : (c : tie.Else1) → hasZero (words c) ≡ false
 nonzero c = sym (c .before .has-zero .ensures) ∙ c .if1 .left
 
 abbrev closing : tie.Else1 → ℕ
@@ -53,15 +52,14 @@ closing c = let s = bytes c in le 8 s (headerLengthAt s - 8)
 closed : (c : tie.After-u64-at) → c .u64-at .result ≡ closing (c .before)
 closed c = rw (c .before .before .before .before .u16-at .ensures) at (c .u64-at .ensures)
 
-mapped : (c : tie.Else2) → mapFault (bytes (one c)) (state (one c)) ≡ false
-unfolding mapFault
-mapped c = rw (nonzero (one c), eq-eqb (closing (one c)) 0 (omega (arith, closed (c .before))))
+mapped : (c : tie.Else2) (guid : List ℕ) → mapFault (bytes (one c)) (state (one c) guid) ≡ false
+unfolding mapFault mapOf stateWith
+mapped c guid = rw (nonzero (one c), eq-eqb (closing (one c)) 0 (omega (arith, closed (c .before))))
 
-sized : (c : tie.Else3) → let st = state (one (two c)) in sizeFault (st .entries) (mapOf st) (st .length) ≡ false
-unfolding mapOf
+sized : (c : tie.Else3) → let before = one (two c) in sizeFault (start before .args .entries) (words before) (start before .args .len) ≡ false
 sized c = rw (nonzero (one (two c))) at (sym (c .before .map-fault .ensures) ∙ c .if3 .left)
 
-allowed : (c : tie.Else4) → attributesFault (state (one (two (three c))) .attributes) ≡ false
+allowed : (c : tie.Else4) → attributesFault (start (one (two (three c))) .args .attributes) ≡ false
 allowed c = sym (c .before .attributes-fault .ensures) ∙ c .if4 .left
 
 mul-end : tie.Need-mul-end
@@ -76,66 +74,60 @@ cast-closing c = search needs
 sub-closing : tie.Need-sub-closing
 sub-closing c = search needs
 
-array-share-prefix-map : tie.Need-array-share-prefix-map
-array-share-prefix-map c = omega (arith, map-length (c .before .before .before))
-
 slice-aggregate-has-zero : tie.Need-slice-aggregate-has-zero
-slice-aggregate-has-zero c = sym (length-take-le _ _ (omega (arith, map-length (c .before .before .before .before))))
+slice-aggregate-has-zero c = sym (length-take-le _ _ (omega arith))
 
 has-zero-requires : tie.Need-has-zero-requires
 has-zero-requires c κs = search needs
 
 returns : tie.Need-returns
-unfolding refusalOf firstRefusal openRefusals mapFault mapOf
-returns c = simp (sym (c .before .has-zero .ensures) ∙ c .if1 .taken)
+unfolding refusalOf firstRefusal openRefusals mapFault mapOf stateWith
+returns c guid = simp (sym (c .before .has-zero .ensures) ∙ c .if1 .taken)
 
 u64-at-requires : tie.Need-u64-at-requires
 u64-at-requires c κs = search needs
 
 returns-2 : tie.Need-returns-2
-unfolding refusalOf firstRefusal openRefusals mapFault
-returns-2 c = simp (nonzero (c .before .before), ne-eqb (closing (c .before .before)) 0 (λ e. omega (arith, closed (c .before))))
-
-array-share-prefix-map-2 : tie.Need-array-share-prefix-map-2
-array-share-prefix-map-2 c = omega (arith, map-length (start (one c)))
+unfolding refusalOf firstRefusal openRefusals mapFault mapOf stateWith
+returns-2 c guid = simp (nonzero (c .before .before), ne-eqb (closing (c .before .before)) 0 (λ e. omega (arith, closed (c .before))))
 
 slice-aggregate-map-fault : tie.Need-slice-aggregate-map-fault
-slice-aggregate-map-fault c = sym (length-take-le _ _ (omega (arith, map-length (start (one (c .before))))))
+slice-aggregate-map-fault c = sym (length-take-le _ _ (omega arith))
 
 map-fault-requires : tie.Need-map-fault-requires
-map-fault-requires c κs = length-take-le _ _ (omega (arith, map-length (start (one (c .before)))))
+map-fault-requires c κs = length-take-le _ _ (omega arith)
 
 returns-3 : tie.Need-returns-3
-unfolding refusalOf firstRefusal openRefusals mapOf
-returns-3 c =
+unfolding refusalOf firstRefusal openRefusals mapOf stateWith
+returns-3 c guid =
     let behind = c .before .before .before in
-    simp (mapped behind, rw (nonzero (one behind)) at (sym (c .before .map-fault .ensures) ∙ c .if3 .taken))
+    simp (mapped behind guid, rw (nonzero (one behind)) at (sym (c .before .map-fault .ensures) ∙ c .if3 .taken))
 
 attributes-fault-requires : tie.Need-attributes-fault-requires
 attributes-fault-requires c κs = search needs
 
 returns-4 : tie.Need-returns-4
-unfolding refusalOf firstRefusal openRefusals
-returns-4 c =
+unfolding refusalOf firstRefusal openRefusals mapOf stateWith
+returns-4 c guid =
     let behind = c .before .before in
-    simp (mapped (two behind), sized behind, sym (c .before .attributes-fault .ensures) ∙ c .if4 .taken)
+    simp (mapped (two behind) guid, sized behind, sym (c .before .attributes-fault .ensures) ∙ c .if4 .taken)
 
 returns-5 : tie.Need-returns-5
-unfolding refusalOf firstRefusal openRefusals
-returns-5 c =
-    let behind = c .before .before in
-    simp (mapped (two (three behind)), sized (three behind), allowed behind, lt-ltb _ _ (c .if5 .taken))
+unfolding refusalOf firstRefusal openRefusals mapOf stateWith
+returns-5 c guid =
+    let behind = c .before in
+    simp (mapped (two (three behind)) guid, sized (three behind), allowed behind, lt-ltb _ _ (c .if5 .taken))
 
 base-fault-requires : tie.Need-base-fault-requires
 base-fault-requires c κs = search needs
 
 returns-6 : tie.Need-returns-6
-unfolding refusalOf firstRefusal openRefusals
-returns-6 c =
+unfolding refusalOf firstRefusal openRefusals mapOf stateWith
+returns-6 c guid =
     let long = c .before .before in
-    let behind = long .before .before in
+    let behind = long .before in
     simp (
-      mapped (two (three behind)),
+      mapped (two (three behind)) guid,
       sized (three behind),
       allowed behind,
       le-ltb _ _ (long .if5 .left),
@@ -143,12 +135,12 @@ returns-6 c =
     )
 
 returns-7 : tie.Need-returns-7
-unfolding refusalOf firstRefusal openRefusals
-returns-7 c =
+unfolding refusalOf firstRefusal openRefusals mapOf stateWith
+returns-7 c guid =
     let long = c .before .before in
-    let behind = long .before .before in
+    let behind = long .before in
     simp (
-      mapped (two (three behind)),
+      mapped (two (three behind)) guid,
       sized (three behind),
       allowed behind,
       le-ltb _ _ (long .if5 .left),
@@ -163,13 +155,11 @@ fields-refusal-spec =
     u16-at-requires
     cast-closing
     sub-closing
-    array-share-prefix-map
     slice-aggregate-has-zero
     has-zero-requires
     returns
     u64-at-requires
     returns-2
-    array-share-prefix-map-2
     slice-aggregate-map-fault
     map-fault-requires
     returns-3

@@ -1,5 +1,5 @@
--- `volume::header::open_volume` meets its contract: the two tables in a row, and the state that they judge.
-use Prim.Native.Nat.{ℕ}
+-- `volume::header::open_volume` meets its contract: the two tables in a row, and the state whose parts they judge.
+use Prim.Native.Nat.{ℕ, _-_, _/_}
 use mathlib.Core.List.{List}
 use mathlib.Core.Option.{none}
 use mathlib.Core.Path.{_≡_, sym, ap, _∙_}
@@ -7,8 +7,9 @@ use native.Mathlib.Omega.{arith}
 use borrow.Author.Needs.{needs}
 use denote.Ref.{now}
 use Rattle.common.specs.Refusals.{firstRefusal}
-use Rattle.volume.specs.Header.{openingAnswer, refusalOf}
-use Rattle.volume.proofs.header.Fields.{bytesRefusals, entries-bound, readable, open-early, open-late, open-success}
+use Rattle.volume.specs.Header.{entriesOf, guidAt, openingAnswer, refusalOf, stateAt}
+use Rattle.volume.specs.State.{stateWith}
+use Rattle.volume.proofs.header.Fields.{bytesRefusals, fieldsRefusals, state-parts, readable, open-early, open-late, open-success}
 use Rattle.volume.proofs.header.open_volume.Statement.{statement}
 use Rattle.volume.proofs.header.open_volume.Tie as tie
 
@@ -19,6 +20,33 @@ bytes c = now (c .before .before .before .before .args .volume)
 read-on : (c : tie.After-enum-told) → firstRefusal (bytesRefusals (bytes c)) ≡ none
 unfolding refusalOf
 read-on c = sym (c .before .before .bytes-refusal .ensures) ∙ ap refusalOf (c .enum-told .given .1)
+
+-- the places after the map is read and before the parts are, one from the next
+abbrev read : tie.After-fields-refusal → tie.After-read-map
+read c = c .before .before .before
+
+abbrev begun : tie.After-read-map → tie.After-enum-told
+begun c = c .before .before .before .before .before
+
+-- the parts that the second table judges are those of the header's state
+module _ (c : tie.After-fields-refusal) where
+  abbrev header : List ℕ
+  header = bytes (begun (read c))
+
+  abbrev base : ℕ
+  base = begun (read c) .before .before .before .before .args .base
+
+  parts : let told = read c in
+      stateWith (guidAt header) (told .before .before .before .u64-at .result) (told .before .before .u32-at .result) base
+      ((told .before .before .before .before .u16-at .result - 64) / 8) (told .read-map .last .1 .1 .0)
+      ≡ stateAt header base
+  parts =
+      let told = read c in
+      state-parts header base (told .before .before .before .u64-at .ensures) (told .before .before .u32-at .ensures)
+      (ap entriesOf (told .before .before .before .before .u16-at .ensures)) (told .read-map .ensures)
+
+  judged : refusalOf (c .fields-refusal .result) ≡ firstRefusal (fieldsRefusals header (stateAt header base))
+  judged = rw parts at (c .fields-refusal .ensures (guidAt header))
 
 bytes-refusal-requires : tie.Need-bytes-refusal-requires
 bytes-refusal-requires c κs = search needs
@@ -38,11 +66,32 @@ returns c =
 enum-told : tie.Need-enum-told
 enum-told c = search needs
 
-state-at-requires : tie.Need-state-at-requires
-state-at-requires c κs = let r = readable _ (read-on c) in (omega arith, omega arith, r .most)
+u16-at-requires : tie.Need-u16-at-requires
+u16-at-requires c κs = search needs
+
+cast-entries : tie.Need-cast-entries
+cast-entries c = search needs
+
+sub-entries : tie.Need-sub-entries
+sub-entries c = let r = readable _ (read-on (c .before)) in omega arith
+
+u64-at-requires : tie.Need-u64-at-requires
+u64-at-requires c κs = search needs
+
+u32-at-requires : tie.Need-u32-at-requires
+u32-at-requires c κs = search needs
+
+slice-aggregate-read-map : tie.Need-slice-aggregate-read-map
+slice-aggregate-read-map c = search needs
+
+read-map-requires : tie.Need-read-map-requires
+read-map-requires c κs = let r = readable _ (read-on (c .before .before .before .before)) in (omega arith, omega arith)
+
+slice-aggregate-fields-refusal : tie.Need-slice-aggregate-fields-refusal
+slice-aggregate-fields-refusal c = search needs
 
 fields-refusal-requires : tie.Need-fields-refusal-requires
-fields-refusal-requires c κs = let r = readable _ (read-on (c .before)) in (rw (c .state-at .ensures) (entries-bound _ _ r), omega arith)
+fields-refusal-requires c κs = let r = readable _ (read-on (begun (c .before .before))) in (omega arith, omega arith)
 
 enum-known-late : tie.Need-enum-known-late
 enum-known-late c = search needs
@@ -54,21 +103,25 @@ returns-2 : tie.Need-returns-2
 unfolding refusalOf
 returns-2 c =
     let told = c .before .before in
-    let judged = told .before .before in
-    c .refuse2 .ensures
-    ∙ open-late _ _ (read-on (judged .before .before)) _
-    (rw (judged .before .state-at .ensures) at (sym (judged .fields-refusal .ensures) ∙ ap refusalOf (told .late .given .1)))
+    let tested = told .before .before in
+    c .refuse2 .ensures ∙ open-late _ _ (read-on (begun (read tested))) _ (sym (judged tested) ∙ ap refusalOf (told .late .given .1))
 
 enum-told-2 : tie.Need-enum-told-2
 enum-told-2 c = search needs
 
+guid-at-requires : tie.Need-guid-at-requires
+guid-at-requires c κs = let r = readable _ (read-on (begun (read (c .before .before)))) in omega arith
+
+state-with-requires : tie.Need-state-with-requires
+state-with-requires c κs = search needs
+
 returns-3 : tie.Need-returns-3
 unfolding openingAnswer refusalOf
 returns-3 c =
-    let judged = c .before .before in
-    let read = judged .before in
-    rw (read .state-at .ensures)
-    (open-success _ _ (read-on (read .before)) (rw (read .state-at .ensures) at (sym (judged .fields-refusal .ensures) ∙ ap refusalOf (c .enum-told2 .given .1))))
+    let told = c .before .before in
+    let tested = told .before .before in
+    rw (c .state-with .ensures, c .before .guid-at .ensures, parts tested)
+    (open-success _ _ (read-on (begun (read tested))) (sym (judged tested) ∙ ap refusalOf (told .enum-told2 .given .1)))
 
 pub open-volume-spec : {M : Type 1} → statement M
 open-volume-spec =
@@ -79,10 +132,19 @@ open-volume-spec =
     refuse-requires
     returns
     enum-told
-    state-at-requires
+    u16-at-requires
+    cast-entries
+    sub-entries
+    u64-at-requires
+    u32-at-requires
+    slice-aggregate-read-map
+    read-map-requires
+    slice-aggregate-fields-refusal
     fields-refusal-requires
     enum-known-late
     refuse-requires-2
     returns-2
     enum-told-2
+    guid-at-requires
+    state-with-requires
     returns-3)

@@ -1,32 +1,43 @@
--- `volume::header::word_sum` meets its contract: the sum so far and that of the bytes left make the whole.
-use Prim.Native.Nat.{_+_, _-_, _*_, _≤_}
-use mathlib.Core.Path.{_≡_}
+-- `volume::header::word_sum` meets its contract: after each word the accumulator holds the true sum of the words so far modulo 65,536.
+use Prim.Native.Nat.{_-_, _%_, _≤_}
+use mathlib.Core.Path.{_≡_, refl, _∙_}
 use native.Mathlib.Omega.{arith}
 use borrow.Author.Needs.{needs}
 use denote.Ref.{now}
-use lib.ListN.{length, drop}
-use Rattle.volume.specs.Header.{wordSum}
-use Rattle.volume.proofs.header.Fields.{wordSum-next, wordSum-end}
+use lib.ListN.{length, take}
+use Rattle.numbers.proofs.LittleEndian.{le-two}
+use Rattle.volume.specs.Header.{wordModulus, wordSum}
+use Rattle.volume.proofs.header.Sums.{sum-so-far, sum-whole}
 use Rattle.volume.proofs.header.word_sum.Statement.{statement}
 use Rattle.volume.proofs.header.word_sum.Tie as tie
 
 abbrev Inv-loop : tie.InvT-loop
-Inv-loop s sum₀ i₀ sum i = (i ≤ length s + 1) × (sum ≤ 32768 * i) × (sum + wordSum (drop i s) ≡ wordSum s)
+Inv-loop s sum₀ i₀ sum i = (i ≤ length s) × (i % 2 ≡ 0) × (sum ≡ wordSum (take i s) % wordModulus)
 
 abbrev μ-loop : tie.MeasureT-loop
 μ-loop s sum₀ i₀ sum i = length s - i
 
 loop-holds : tie.Need-loop-holds Inv-loop μ-loop
-loop-holds c = search needs
+unfolding wordSum
+loop-holds c = (search needs, refl, refl)
 
-u16-at-requires : tie.Need-u16-at-requires Inv-loop μ-loop
-u16-at-requires c κs = search needs
+sub-loop : tie.Need-sub-loop Inv-loop μ-loop
+sub-loop c = search needs
 
-cast-sum : tie.Need-cast-sum Inv-loop μ-loop
-cast-sum c = search needs
+shared-slice-read-low : tie.Need-shared-slice-read-low Inv-loop μ-loop
+shared-slice-read-low c = search needs
 
-add-sum : tie.Need-add-sum Inv-loop μ-loop
-add-sum c = search needs
+add-high : tie.Need-add-high Inv-loop μ-loop
+add-high c = search needs
+
+shared-slice-read-high : tie.Need-shared-slice-read-high Inv-loop μ-loop
+shared-slice-read-high c = search needs
+
+u16-of-requires : tie.Need-u16-of-requires Inv-loop μ-loop
+u16-of-requires c κs = search needs
+
+wrapping-add-u16-requires : tie.Need-wrapping-add-u16-requires Inv-loop μ-loop
+wrapping-add-u16-requires c κs = search needs
 
 add-i : tie.Need-add-i Inv-loop μ-loop
 add-i c = search needs
@@ -35,10 +46,24 @@ loop-less : tie.Need-loop-less Inv-loop μ-loop
 loop-less c = search needs
 
 loop-again : tie.Need-loop-again Inv-loop μ-loop
-loop-again c = let l = c .before .before .loop in omega (arith, wordSum-next (now (c .before .before .before .before .args .s)) (l .i) (omega arith))
+loop-again c =
+    let looped = c .before .before .before .before .before in
+    let l = looped .loop in
+    let s = now (looped .before .before .args .s) in
+    let word = c .before .u16-of .ensures ∙ le-two s (l .i) _ (omega arith) in
+    (search needs, search needs, omega (arith, sum-so-far s (l .i) (l .inv .1) (omega arith)))
+
+u16-at-requires : tie.Need-u16-at-requires Inv-loop μ-loop
+u16-at-requires c κs = search needs
+
+wrapping-add-u16-requires-2 : tie.Need-wrapping-add-u16-requires-2 Inv-loop μ-loop
+wrapping-add-u16-requires-2 c κs = search needs
 
 returns : tie.Need-returns Inv-loop μ-loop
-returns c = let l = c .before .loop in omega (arith, wordSum-end (now (c .before .before .before .args .s)) (l .i) (omega arith))
+returns c =
+    let looped = c .before .before .before in
+    let l = looped .loop in
+    omega (arith, sum-whole (now (looped .before .before .args .s)) (l .i) (l .inv .1) (l .inv .0) (omega arith))
 
 pub word-sum-spec : {M : Type 1} → statement M
 word-sum-spec =
@@ -47,10 +72,15 @@ word-sum-spec =
     Inv-loop
     μ-loop
     loop-holds
-    u16-at-requires
-    cast-sum
-    add-sum
+    sub-loop
+    shared-slice-read-low
+    add-high
+    shared-slice-read-high
+    u16-of-requires
+    wrapping-add-u16-requires
     add-i
     loop-less
     loop-again
+    u16-at-requires
+    wrapping-add-u16-requires-2
     returns)

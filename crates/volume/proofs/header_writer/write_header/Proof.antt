@@ -1,5 +1,5 @@
 -- `volume::header_writer::write_header` meets its contract: each refusal is the first row that holds; else the stores make the header, then its checksum.
-use Prim.Native.Nat.{ℕ, _≤_}
+use Prim.Native.Nat.{ℕ, _%_, _≤_}
 use mathlib.Core.Path.{_≡_, sym, ap, _∙_}
 use mathlib.Core.Bool.{false, or-true}
 use mathlib.Core.List.{List, [], _∷_, _++_}
@@ -15,7 +15,7 @@ use Rattle.common.specs.Refusals.{firstRefusal}
 use Rattle.numbers.specs.LittleEndian.{leBytes}
 use Rattle.volume.specs.Attributes.{attributesFault}
 use Rattle.volume.specs.BlockMap.{headerLength, sizeFault}
-use Rattle.volume.specs.Header.{mapStart, wordSum}
+use Rattle.volume.specs.Header.{mapStart, wordModulus, wordSum}
 use Rattle.volume.specs.HeaderWriter.{checksum, headerBytes, headerFront, headerWith, pairs, reservedAndRevision, wordsBytes, wordsFault, writeRefusals, writtenAnswer, wrote}
 use Rattle.volume.proofs.block_map.Words.{Sized, size-passed}
 use Rattle.volume.proofs.header_writer.Stores.{write-refused, write-done, header-stored, checksum-stored, length-header}
@@ -174,13 +174,13 @@ slice-aggregate-word-sum : tie.Need-slice-aggregate-word-sum
 slice-aggregate-word-sum c = sym (front-long (c .before .before .before))
 
 word-sum-requires : tie.Need-word-sum-requires
-word-sum-requires c κs =
-    let there = c .before .before .before in
-    let ok = accepted there in
-    rw (front-long there) (omega (arith, fits ok .few-entries, long-is ok))
+word-sum-requires c κs = search needs
 
-sub-store : tie.Need-sub-store
-sub-store c = search needs
+wrapping-sub-u16-requires : tie.Need-wrapping-sub-u16-requires
+wrapping-sub-u16-requires c κs = search needs
+
+cast-store : tie.Need-cast-store
+cast-store c = search needs
 
 store-requires : tie.Need-store-requires
 store-requires c κs = search needs
@@ -192,14 +192,17 @@ returns-6 : tie.Need-returns-6
 unfolding writtenAnswer headerBytes
 returns-6 c =
     let stored = c .before .before in
-    let there = stored .before .before .before .before .before .before in
+    let summed = stored .before .before .before in
+    let there = summed .before .before .before .before in
     let ok = accepted there in
     let a = start (behind ok) .args in
     let rest = drop (long ok) (room ok) in
     let check = checksum (wordSum (header ok 0)) in
-    let sum = stored .before .before .word-sum .ensures ∙ ap wordSum (front-there there) in
+    let sum : summed .word-sum .result ≡ wordSum (header ok 0) % wordModulus =
+    summed .word-sum .ensures ∙ ap (λ (l : List ℕ). wordSum l % wordModulus) (front-there there) in
+    let sum-off : stored .before .wrapping-sub-u16 .result ≡ check = omega arith in
     ap (λ (l : List ℕ). wrote (success (long ok ∷ [])) l)
-    ((rw sum at (stored .store .ensures)) ∙ ap (λ (l : List ℕ). sets l 50 (leBytes 2 check)) (header-there there)
+    ((rw sum-off at (stored .store .ensures)) ∙ ap (λ (l : List ℕ). sets l 50 (leBytes 2 check)) (header-there there)
     ∙ checksum-stored check (guid ok) (a .len) (a .attributes) (words (behind ok)) rest (guid-length (start (behind ok))))
     ∙ ap (λ (h : ℕ). wrote (success (h ∷ [])) (header ok check ++ drop h (room ok))) (long-is ok)
     ∙ write-done (guid ok) (a .len) (a .attributes) (words (behind ok)) (room ok) (guid-length (start (behind ok))) (behind ok .if2 .left) (roomy ok)
@@ -222,7 +225,8 @@ write-header-spec =
     slice-reshare-prefix-word-sum
     slice-aggregate-word-sum
     word-sum-requires
-    sub-store
+    wrapping-sub-u16-requires
+    cast-store
     store-requires
     same-length
     returns-6)
