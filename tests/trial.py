@@ -117,7 +117,8 @@ def header_writing(name, room, guid, length, attributes, map_words, pattern=PATT
 
 def word_sums(name, data):
     sums = "".join("%04x," % value for value in volume.running_sums(data))
-    return Case(name, items(name.encode(), number(6), data), [line(name, "word sum", sums)], [0])
+    whole = "%04x" % volume.word_sum(data)
+    return Case(name, items(name.encode(), number(6), data), [line(name, "word sum", sums, whole)], [0])
 
 
 def listing(name, own, lent, room=LISTING, pattern=ERASED):

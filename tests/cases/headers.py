@@ -1,10 +1,10 @@
-"""Opening, header writing and listing.
+"""Opening, header writing, listing and the word sum.
 
 A line of a case: its name, the call, and
   open          number, length, attributes, entries, base, GUID, map words (zeros on a refusal)
   write header  number, header length on success, the room's change
   list          number, length of the text on success, the text with | for a line feed
-  word sum      the sum after each word, in hexadecimal
+  word sum      the sum after each word, and of all the bytes, in hexadecimal
 README.md has the fields of a change. A name's end says which refusal the case gets.
 """
 
@@ -99,31 +99,39 @@ def true_sum(own):
     return sum(number(own, i, 2) for i in range(0, len(own), 2))
 
 
-# Headers by how often their true sum passes 65,536.
-WRAPS = {
-    "1 entry, wraps once": (header([1, 72], attributes=0), 72),
-    "1 entry, wraps nine times": (header(guid=b"\xff" * 16), 2048),
-    "32 entries, wraps once": (header([1, 1] * 31 + [1, 289], attributes=0), 4096),
-    "32 entries, wraps often": (header(FULL_MAP, guid=b"\xff" * 16, patches=[(0, b"\xff" * 16), (52, b"\xff\xff\xff")]), 2112),
-}
+def wraps(own):
+    """How often the accumulator wraps."""
+    return true_sum(own) // 65536
+
+
+# Headers of 1 and of 32 entries whose sums wrap once, twice and more often, each to exactly 0, and the bytes lent.
+SUMMED = [(header([1, 72], attributes=0), 72),
+          (header(guid=b"\xff\xff" + bytes(14)), 2048),
+          (header(guid=b"\xff" * 16), 2048),
+          (header([1, 1] * 31 + [1, 289], attributes=0), 4096),
+          (header([1, 1] * 31 + [1, 289], attributes=0, guid=b"\xff\xff" + bytes(14)), 4096),
+          (header(FULL_MAP, guid=b"\xff" * 16, patches=[(0, b"\xff" * 16), (52, b"\xff\xff\xff")]), 2112)]
+
+
+def summed_name(own):
+    often = {0: "does not wrap", 1: "wraps once", 2: "wraps twice"}.get(wraps(own), "wraps %d times" % wraps(own))
+    folded = ", 0 modulo 65,535" if true_sum(own) % 65535 == 0 else ""
+    return "%d bytes whose sum %s, %04X%s" % (len(own), often, true_sum(own) % 65536, folded)
 
 
 def wrap_cases():
-    for name, (own, lent) in WRAPS.items():
-        yield opening(name + " to exactly 0, opens", own, lent)
-        for off in (-1, 1, 0x8000):
-            yield opening("%s to 0x%04X: 105" % (name, off % 65536), with_sum(own, off), lent)
-    # with each carry added back, as internet checksums do, the sum is 0 modulo 65,535
-    for name, (own, lent) in WRAPS.items():
-        wraps = true_sum(own) // 65536
-        if wraps > 1:
-            yield opening("%s, 0 where carries are added back: 105" % name, with_sum(own, -wraps), lent)
+    assert [wraps(own) for own, _ in SUMMED] == [1, 2, 9, 1, 2, 18]
+    for own, lent in SUMMED:
+        yield opening(summed_name(own) + ", open", own, lent)
+        for off in sorted({-wraps(own), -1, 1, 0x8000}):
+            wrong = with_sum(own, off)
+            yield opening(summed_name(wrong) + ": 105", wrong, lent)
 
 
 def running_cases():
     yield word_sums("sample A's header", A)
-    for name, (own, _) in WRAPS.items():
-        yield word_sums(name, own)
+    for own, _ in SUMMED:
+        yield word_sums(summed_name(own), own)
     yield word_sums("no byte", b"")
     yield word_sums("one byte", b"\xfe")
     yield word_sums("an odd byte is the low byte of a last word", b"\x01\xff\xff")

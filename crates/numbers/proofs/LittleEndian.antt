@@ -148,7 +148,7 @@ le-four s at j k l ej ek el =
     rw (ej, second, third)
 
 -- n bytes and the m after them: the number of the first, and behind it that of the others
-pub le-split : (n m : ℕ) (s : List ℕ) (at : ℕ) → le (n + m) s at ≡ le n s at + 256 ^ n * le m s (at + n)
+le-split : (n m : ℕ) (s : List ℕ) (at : ℕ) → le (n + m) s at ≡ le n s at + 256 ^ n * le m s (at + n)
 unfolding le
 le-split zero m s at = rw (zero-add m, add-zero at) (omega arith)
 le-split (suc n) m s at =

@@ -13,7 +13,7 @@ use Rattle.volume.specs.Attributes.{attributesFault, baseFault}
 use Rattle.volume.specs.BlockMap.{blocks, bytes, hasZero, allZero, sizeFault}
 use Rattle.block_service.specs.Blocks.{place, placeFrom, startOf, lengthOf, blockAt}
 use Rattle.block_service.specs.Erase.{endOfList, goodList, names, eraseChange}
-use Rattle.volume.specs.Header.{openVolume, opened, opens, stateAt, wordsAt, wordSum, openRefusals, headerLengthFault, mapFault}
+use Rattle.volume.specs.Header.{openVolume, opened, opens, stateAt, wordsAt, wordSum, runningSumsFrom, runningSums, openRefusals, headerLengthFault, mapFault}
 use Rattle.block_service.specs.Service.{refusals, lentRefusals, moveAnswer, effect, decide, withAttributes, perform, bufferOf, Result, Call, setAttributes, read, write, eraseBlocks, step}
 use Rattle.block_service.specs.Settings.{changesFixed, raises, clears, lacksCapability, settingRefusals}
 use Rattle.volume.specs.State.{mapOf, stateOf, stateWith, zeroState, unlawful}
@@ -23,7 +23,7 @@ use Rattle.sections.specs.Walk.{streamWalk, walk, siblings, meet, afterPadding,
 use Rattle.sections.specs.Search.{searchOf, sections, firstFault, ofType}
 use Rattle.listing.specs.Decimal.{decimal, digits, places, placesFrom}
 use Rattle.listing.specs.Listing.{field, line, linesOf, listing, mapLines}
-use Rattle.table.specs.SampleA.{headerA, sampleA, linesA}
+use Rattle.table.specs.SampleA.{headerA, sampleA, sumsA, linesA}
 use Rattle.table.proofs.Instances.{stateA}
 
 -- a call on sample A and the state that opening it answers
@@ -130,3 +130,8 @@ table =
 pub lister : listing sampleA ≡ linesA
 unfolding opening judging listing linesOf mapLines line field decimal places placesFrom digits linesA
 lister = refl
+
+-- beside the table: the sums of sample A's header, word by word
+pub running-sums : runningSums headerA ≡ sumsA
+unfolding headerA sumsA runningSumsFrom
+running-sums = refl

@@ -19,6 +19,12 @@ headerA =
 unfoldable pub sampleA : List ℕ
 sampleA = headerA ++ replicate 1976 0xFF
 
+-- the 16-bit accumulator after each word of its header, as the boot block's listing has it (02, d)
+unfoldable pub sumsA : List ℕ
+sumsA =
+    replicate 16 0
+    ++ (0x0800 ∷ 0x0800 ∷ 0x0800 ∷ 0x0800 ∷ 0x4E5F ∷ 0x96B5 ∷ 0xA4F4 ∷ 0xA4F4 ∷ 0xA53C ∷ 0xFCFC ∷ 0xFCFC ∷ 0xFDFC ∷ 0xFE00 ∷ 0xFE00 ∷ replicate 6 0)
+
 -- what the lister prints for it: `volume\t2048\t3647\t1` and `map\t0\t4\t512`, each line with its line feed
 unfoldable pub linesA : List ℕ
 linesA =

@@ -1,4 +1,4 @@
-// The cases of headers: opening, writing, listing.
+// The cases of headers: opening, writing, listing, the word sum.
 use crate::print::begin;
 use crate::print::bytes_field;
 use crate::print::change_fields;
@@ -136,10 +136,12 @@ fn list_in(case: &[u8], volume: &[u8], room: &mut [u8]) -> usize {
     }
 }
 
-// The word sum: the bytes. It is asked for after each word, as the boot block's listing has it.
+// The word sum: the bytes. It is asked for after each word, as the boot block's listing has it, and of all the bytes.
 pub(crate) fn sum_case(case: &[u8]) {
     begin(case, b"word sum");
     sums_field(item(case, 2));
+    text(b"\t");
+    sum_text(item(case, 2));
     end();
 }
 
@@ -148,7 +150,11 @@ fn sums_field(s: &[u8]) {
     let mut i = 0;
     while i < s.len() {
         i += 2;
-        io::print_hex(libc::STDOUT_FILENO, word_sum(prefix(s, i)) as u64, 4);
+        sum_text(prefix(s, i));
         text(b",");
     }
+}
+
+fn sum_text(s: &[u8]) {
+    io::print_hex(libc::STDOUT_FILENO, word_sum(s) as u64, 4);
 }

@@ -58,11 +58,12 @@ opened-lawful = Reading.opened-lawful
 
 -- ---- the word sum, line by line (02, d: "one 16-bit accumulator that wraps at each addition")
 
--- "after each word it holds the true sum so far modulo 65,536": line k of the listing, from 0, of any byte string
+-- "after each word it holds the true sum so far modulo 65,536": line k of the listing, from 0, of any byte string. That the code's own accumulator does is
+-- the invariant of its loop (`Inv-loop`, proofs/header/word_sum)
 pub running-sum : (s : List ℕ) (k : ℕ) → k < length (runningSums s) → getD (runningSums s) k 0 ≡ wordSum (take (2 * (k + 1)) s) % wordModulus
 running-sum = Sums.running-is
 
--- the same of a volume's header, in the lent bytes
+-- the same of a volume's header that is lent whole, in the lent bytes
 pub header-sum : (v : List ℕ) (k : ℕ) → headerLengthAt v ≤ length v → 2 * (k + 1) ≤ headerLengthAt v
     → getD (runningSums (take (headerLengthAt v) v)) k 0 ≡ wordSum (take (2 * (k + 1)) v) % wordModulus
 header-sum = Sums.header-running
@@ -71,18 +72,21 @@ header-sum = Sums.header-running
 pub running-lines : (s : List ℕ) → length (runningSums s) ≡ (length s + 1) / 2
 running-lines = Sums.length-running 0
 
--- "wraps at each addition": each line is the one before it and the word there, modulo 65,536
+-- "wraps at each addition": the first line is the first word, each next one the line before it and the word there, modulo 65,536
+pub running-first : (s : List ℕ) → 0 < length s → getD (runningSums s) 0 0 ≡ le 2 s 0 % wordModulus
+running-first = Sums.running-first
+
 pub running-step : (s : List ℕ) (k : ℕ) → k + 1 < length (runningSums s)
     → getD (runningSums s) (k + 1) 0 ≡ (getD (runningSums s) k 0 + le 2 s (2 * (k + 1))) % wordModulus
 running-step = Sums.running-next
 
 -- the last line is what `word_sum` answers, what 105 tests, and what the checksum brings to 0
-pub last-sum : (s : List ℕ) → 0 < length s → getD (runningSums s) (length (runningSums s) - 1) 0 ≡ wordSum s % wordModulus
+pub last-sum : (s : List ℕ) → getD (runningSums s) (length (runningSums s) - 1) 0 ≡ wordSum s % wordModulus
 last-sum = Sums.running-last
 
--- so the last line of a header that opens is 0
+-- so a header that opens has a last line, and it is 0
 pub opened-last-sum : (v : List ℕ) (base : ℕ) → openVolume v base .answer ≡ success []
-    → let sums = runningSums (take (headerLengthAt v) v) in getD sums (length sums - 1) 0 ≡ 0
+    → let sums = runningSums (take (headerLengthAt v) v) in (0 < length sums) × (getD sums (length sums - 1) 0 ≡ 0)
 opened-last-sum = Reading.opened-zero
 
 -- ---- writing a header

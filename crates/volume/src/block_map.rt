@@ -39,7 +39,7 @@ pub(crate) fn has_zero(words: &[u32]) -> bool
     found != 0
 }
 
-// 1 for a zero word, 0 for any other.
+// Not zero for a zero word, and 0 for any other.
 fn zero_mark(word: u32) -> u32
     ensures { λ r. ⌜ eqb r 0 ≡ not (eqb word 0) ⌝ }
 {

@@ -109,6 +109,7 @@ pub too-many-entries : (n : ℕ) (w : List ℕ) (len : ℕ) → maxEntries < n �
 unfolding sizeFault any
 too-many-entries n w len h = rw (lt-ltb maxEntries n h, or-true)
 
+-- past the end there is no zero word
 pub hasZero-end : (w : List ℕ) (i : ℕ) → length w ≤ i → false ≡ hasZero (drop i w)
 unfolding hasZero
 hasZero-end w i h = rw (drop-of-length-le w {i = i} h)
@@ -140,5 +141,4 @@ found-next w i g mark h e = rw (add-one, drop-cons w i 0 h, gathered-zero g mark
     go false b = refl
 
 pub found-end : (w : List ℕ) (i g : ℕ) → length w ≤ i → (not (eqb g 0) || hasZero (drop i w)) ≡ not (eqb g 0)
-unfolding hasZero
-found-end w i g h = rw (drop-of-length-le w {i = i} h, or-false)
+found-end w i g h = rw (← hasZero-end w i h, or-false)

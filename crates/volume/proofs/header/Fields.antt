@@ -1,12 +1,12 @@
 -- Laws of the header: its fields one at a time, for the loops that read them, and what its refusal tables say.
-use Prim.Native.Nat.{ℕ, zero, suc, _+_, _*_, _/_, _%_, _≤_, _<_}
+use Prim.Native.Nat.{ℕ, zero, suc, _+_, _*_, _%_, _≤_, _<_}
 use mathlib.Core.Path.{_≡_, refl, ap, _∙_}
-use mathlib.Core.Bool.{Bool, true, false, not}
-use mathlib.Core.List.{List, [], _∷_, _++_}
+use mathlib.Core.Bool.{false, not}
+use mathlib.Core.List.{List, [], _++_}
 use mathlib.Core.Option.{Option, none, some}
 use native.Mathlib.Nat.{add-zero, mul-zero}
 use native.Mathlib.Omega.{arith}
-use borrow.Author.Tests.{ltb-true, ltb-false, eqb-true, not-false}
+use borrow.Author.Tests.{ltb-false, eqb-true, not-false}
 use lib.Dec.{eqb, ltb}
 use lib.ListN.{length, getD, take, drop, replicate}
 use Rattle.common.specs.Answers.{refused, success}
@@ -89,7 +89,7 @@ unfolding stateAt stateOf
 state-parts s base {n = n} l a e m = rw (l, a, m, drop-zeros (2 * n) 64, e)
 
 -- a readable header's state keeps the limit of entries
-pub entries-bound : (s : List ℕ) (base : ℕ) → Readable s → 2 * stateAt s base .entries ≤ 2 * maxEntries
+entries-bound : (s : List ℕ) (base : ℕ) → Readable s → 2 * stateAt s base .entries ≤ 2 * maxEntries
 unfolding stateAt stateOf stateWith
 entries-bound s base r = omega arith
 

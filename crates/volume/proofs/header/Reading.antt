@@ -20,7 +20,7 @@ use Rattle.volume.specs.State.{stateWith, stateOf, zeroState, mapOf, unl
 use Rattle.volume.specs.Header.{signature, headerLengthAt, wordsAt, wordSum, runningSums, stateAt, headerLengthFault, mapFault, openRefusals, opens, opened, openVolume, wordModulus}
 use Rattle.volume.specs.declared.state.State.{State}
 use Rattle.volume.proofs.header.Fields.{bytesRefusals, fieldsRefusals, rows-split, length-wordsAt, readable, open-success, opened-passed}
-use Rattle.volume.proofs.header.Sums.{running-last}
+use Rattle.volume.proofs.header.Sums.{length-running, running-last}
 use Rattle.volume.proofs.block_map.Words.{size-passed}
 
 -- two byte strings agree from place a up to place b
@@ -123,12 +123,13 @@ pub reserved-ignored : (v w : List ℕ) (base : ℕ) → length v ≡ length w �
     → wordSum (take (headerLengthAt v) v) % wordModulus ≡ 0 → wordSum (take (headerLengthAt v) w) % wordModulus ≡ 0 → openVolume v base ≡ openVolume w base
 reserved-ignored v w base e front least back p q = open-same v w base e front least back (rw (p, q))
 
--- where opening succeeds the accumulator's last value is 0
+-- where opening succeeds the accumulator has a last value, and it is 0
 pub opened-zero : (v : List ℕ) (base : ℕ) → openVolume v base .answer ≡ success []
-    → let sums = runningSums (take (headerLengthAt v) v) in getD sums (length sums - 1) 0 ≡ 0
+    → let sums = runningSums (take (headerLengthAt v) v) in (0 < length sums) × (getD sums (length sums - 1) 0 ≡ 0)
 opened-zero v base e =
     let r = readable v (front-passed (bytesRefusals v) (fieldsRefusals v (stateAt v base)) (rw (rows-split v (stateAt v base)) at (opened-passed v base e))) in
-    running-last (take (headerLengthAt v) v) (omega (arith, length-take-le (headerLengthAt v) v (r .within))) ∙ r .summed
+    let header = take (headerLengthAt v) v in
+    (omega (arith, length-running 0 header, length-take-le (headerLengthAt v) v (r .within)), running-last header ∙ r .summed)
 
 -- what a volume's bytes must hold to open to these values
 pub record Holds (v guid : List ℕ) (len a n : ℕ) (words : List ℕ) : Type 0 where

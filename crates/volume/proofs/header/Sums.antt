@@ -15,7 +15,7 @@ use Rattle.numbers.proofs.LittleEndian.{le-past}
 use Rattle.volume.specs.Header.{headerLengthAt, wordModulus, wordSum, runningSumsFrom, runningSums}
 
 -- a word of the sum, and the rest of it
-pub wordSum-next : (s : List ℕ) (i : ℕ) → i < length s → wordSum (drop i s) ≡ le 2 s i + wordSum (drop (i + 2) s)
+wordSum-next : (s : List ℕ) (i : ℕ) → i < length s → wordSum (drop i s) ≡ le 2 s i + wordSum (drop (i + 2) s)
 unfolding wordSum le
 wordSum-next s i h = go (ltb (i + 1) (length s)) refl
   where
@@ -26,7 +26,7 @@ wordSum-next s i h = go (ltb (i + 1) (length s)) refl
         let z : drop (suc i) s ≡ [] = drop-of-length-le s {i = suc i} (omega arith) in
         rw (drop-cons s i 0 h, z, List·getD-eq-default s 0 {n = i + 1} past, drop-of-length-le s {i = i + 2} (omega arith)) (omega arith)
 
-pub wordSum-end : (s : List ℕ) (i : ℕ) → length s ≤ i → wordSum (drop i s) ≡ 0
+wordSum-end : (s : List ℕ) (i : ℕ) → length s ≤ i → wordSum (drop i s) ≡ 0
 unfolding wordSum
 wordSum-end s i h = rw (drop-of-length-le s {i = i} h)
 
@@ -45,7 +45,7 @@ wordSum-two x b = refl
 -- ---- the words so far
 
 -- the sum of the words before an even place and that of the words from there on make the whole
-pub sum-parts : (s : List ℕ) (i : ℕ) → i % 2 ≡ 0 → i ≤ length s → wordSum s ≡ wordSum (take i s) + wordSum (drop i s)
+sum-parts : (s : List ℕ) (i : ℕ) → i % 2 ≡ 0 → i ≤ length s → wordSum s ≡ wordSum (take i s) + wordSum (drop i s)
 sum-parts s i even h =
     ap wordSum (sym (take-append-drop i s)) ∙ wordSum-append (take i s) (drop i s) (rw (length-take-le i s h) even)
 
@@ -79,7 +79,7 @@ length-running sum (a ∷ []) = refl
 length-running sum (a ∷ b ∷ rest) = omega (arith, length-running ((sum + (a + 256 * b)) % wordModulus) rest)
 
 -- the k-th, from 0, is the true sum of the first k + 1 words modulo 65,536, from where the accumulator started
-pub running-at : (sum : ℕ) (s : List ℕ) (k : ℕ) → k < length (runningSumsFrom sum s)
+running-at : (sum : ℕ) (s : List ℕ) (k : ℕ) → k < length (runningSumsFrom sum s)
     → getD (runningSumsFrom sum s) k 0 ≡ (sum + wordSum (take (2 * (k + 1)) s)) % wordModulus
 unfolding runningSumsFrom wordSum
 running-at sum [] k h = omega arith
@@ -90,7 +90,7 @@ running-at sum (a ∷ b ∷ rest) (suc k) h =
     let e : 2 * (suc k + 1) ≡ suc (suc (2 * (k + 1))) = omega arith in
     rw e (omega (arith, running-at ((sum + (a + 256 * b)) % wordModulus) rest k (omega arith)))
 
--- which is 0
+-- it starts at 0
 pub running-is : (s : List ℕ) (k : ℕ) → k < length (runningSums s) → getD (runningSums s) k 0 ≡ wordSum (take (2 * (k + 1)) s) % wordModulus
 running-is s k h = running-at 0 s k h ∙ rw zero-add
 
@@ -102,9 +102,17 @@ running-next s k h =
     let two : 2 * (k + 1 + 1) ≡ 2 * (k + 1) + 2 = omega arith in
     rw (running-is s (k + 1) h, running-is s k (omega arith), two, sum-so-far s (2 * (k + 1)) (omega arith) (omega arith)) (omega arith)
 
+-- the first is the first word
+pub running-first : (s : List ℕ) → 0 < length s → getD (runningSums s) 0 0 ≡ le 2 s 0 % wordModulus
+unfolding wordSum
+running-first s h = running-is s 0 (omega (arith, length-running 0 s)) ∙ rw (sum-so-far s 0 refl (omega arith), zero-add)
+
 -- the last is the whole sum
-pub running-last : (s : List ℕ) → 0 < length s → getD (runningSums s) (length (runningSums s) - 1) 0 ≡ wordSum s % wordModulus
-running-last s h =
+pub running-last : (s : List ℕ) → getD (runningSums s) (length (runningSums s) - 1) 0 ≡ wordSum s % wordModulus
+unfolding wordSum runningSumsFrom
+running-last [] = refl
+running-last (a ∷ rest) =
+    let s = a ∷ rest in
     let long = length-running 0 s in
     let k = length (runningSums s) - 1 in
     running-is s k (omega arith) ∙ rw (take-all (2 * (k + 1)) s (omega arith))

@@ -26,14 +26,8 @@ add-i c = search needs
 prefix-requires : tie.Need-prefix-requires Inv-loop μ-loop
 prefix-requires c κs = search needs
 
-word-sum-requires : tie.Need-word-sum-requires Inv-loop μ-loop
-word-sum-requires c κs = search needs
-
-cast-print-hex : tie.Need-cast-print-hex Inv-loop μ-loop
-cast-print-hex c = search needs
-
-print-hex-requires : tie.Need-print-hex-requires Inv-loop μ-loop
-print-hex-requires c κs = search needs
+sum-text-requires : tie.Need-sum-text-requires Inv-loop μ-loop
+sum-text-requires c κs = search needs
 
 slice-aggregate-text-2 : tie.Need-slice-aggregate-text-2 Inv-loop μ-loop
 slice-aggregate-text-2 c = search needs
@@ -61,9 +55,7 @@ sums-field-spec =
     loop-holds
     add-i
     prefix-requires
-    word-sum-requires
-    cast-print-hex
-    print-hex-requires
+    sum-text-requires
     slice-aggregate-text-2
     text-requires-2
     loop-less
