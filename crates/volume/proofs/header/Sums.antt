@@ -65,8 +65,8 @@ sum-so-far s i even h = go (ltb (i + 1) (length s)) (ltb i (length s)) refl refl
         let past : length s ≤ i = ltb-false i (length s) f in
         rw (take-all (i + 2) s (omega arith), take-all i s past, le-past 2 s i past) (omega arith)
 
--- with what is left where no whole word is
-pub sum-whole : (s : List ℕ) (i : ℕ) → i % 2 ≡ 0 → i ≤ length s → length s ≤ i + 1 → wordSum s ≡ wordSum (take i s) + le 2 s i
+-- with what is left where that is one word at most
+pub sum-whole : (s : List ℕ) (i : ℕ) → i % 2 ≡ 0 → i ≤ length s → length s ≤ i + 2 → wordSum s ≡ wordSum (take i s) + le 2 s i
 sum-whole s i even h end = ap wordSum (sym (take-all (i + 2) s (omega arith))) ∙ sum-so-far s i even h
 
 -- ---- the accumulator's values

@@ -1,4 +1,4 @@
--- `volume::header::word_sum` meets its contract: after each word the accumulator holds the true sum of the words so far modulo 65,536.
+-- `volume::header::word_sum` meets its contract: what the accumulator holds after the last whole word, and the odd byte that may be left.
 use Prim.Native.Nat.{_-_, _%_, _≤_}
 use mathlib.Core.Path.{_≡_, refl, _∙_}
 use native.Mathlib.Omega.{arith}
@@ -11,6 +11,7 @@ use Rattle.volume.proofs.header.Sums.{sum-so-far, sum-whole}
 use Rattle.volume.proofs.header.word_sum.Statement.{statement}
 use Rattle.volume.proofs.header.word_sum.Tie as tie
 
+-- 02, d: "after each word it holds the true sum so far modulo 65,536"; the words so far are the i bytes before the next one
 abbrev Inv-loop : tie.InvT-loop
 Inv-loop s sum₀ i₀ sum i = (i ≤ length s) × (i % 2 ≡ 0) × (sum ≡ wordSum (take i s) % wordModulus)
 
