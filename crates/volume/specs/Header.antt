@@ -85,6 +85,7 @@ runningSumsFrom sum [] = []
 runningSumsFrom sum (a ∷ []) = (sum + a) % wordModulus ∷ []
 runningSumsFrom sum (a ∷ b ∷ rest) = let next = (sum + (a + 256 * b)) % wordModulus in next ∷ runningSumsFrom next rest
 
+-- the same of a whole byte string: the accumulator starts at 0
 abbrev pub runningSums : List ℕ → List ℕ
 runningSums s = runningSumsFrom 0 s
 
