@@ -1,5 +1,5 @@
 -- Laws of little-endian numbers, each over the width: what reading gives past the end and from one byte more, its bound, what is
--- read in an appended list, that reading gives back what was stored, and which bytes a store leaves.
+-- read in an appended list, that reading gives back what was stored, and which bytes a store leaves; and numbers of 2, 4 and 8 bytes from their parts.
 use Prim.Native.Nat.{ℕ, zero, suc, _+_, _-_, _*_, _/_, _%_, _^_, _≤_, _<_}
 use mathlib.Core.Path.{_≡_, refl, sym, ap, ap₂, _∙_}
 use mathlib.Core.List.{List, [], _∷_, _++_, append-assoc}

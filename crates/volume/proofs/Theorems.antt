@@ -1,4 +1,4 @@
--- What a reader of document 01 may want to know of headers, beyond the contracts of src/: each theorem with 01's words, in 01's order. The proofs are
+-- What a reader of document 01 may want to know of headers, beyond the contracts of src/: each theorem with 01's words, or those of 02's request d, in 01's order. The proofs are
 -- citations; the laws stand under the module of src/ that they serve.
 use Prim.Native.Nat.{ℕ, _+_, _-_, _*_, _/_, _%_, _≤_, _<_, _^_}
 use mathlib.Core.Path.{_≡_}

@@ -167,9 +167,9 @@ fn header_length_fault(header: usize, lent: usize) -> bool
     lent < header
 }
 
-// The sum of the 16-bit words of a byte string, modulo 65,536. As in the boot block's listing it is one accumulator of 16 bits that wraps
-// at each addition: load the word, add, next. An odd byte at the end is the low byte of a last word, which is added behind the loop; a
-// header has none, and 0 is added.
+// The sum of the 16-bit words of a byte string, modulo 65,536, in one accumulator of 16 bits that wraps at each addition, as the boot block's
+// listing keeps it. A turn of the loop loads a word and adds it. An odd byte at the end is the low byte of a last word, which is added behind
+// the loop; a header has none, and 0 is added.
 pub fn word_sum(s: &[u8]) -> u16
     ensures { λ r. ⌜ r ≡ wordSum (now (s .entry)) % wordModulus ⌝ }
 {

@@ -1,4 +1,4 @@
--- `volume::header::open_volume` meets its contract: the two tables in a row, and the state whose parts they judge.
+-- `volume::header::open_volume` meets its contract: the two tables in a row, and the state whose parts the second judges.
 use Prim.Native.Nat.{ℕ, _-_, _/_}
 use mathlib.Core.List.{List}
 use mathlib.Core.Option.{none}
