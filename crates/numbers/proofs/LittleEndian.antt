@@ -143,9 +143,9 @@ pub le-four : (s : List ℕ) (at j k l : ℕ) → j ≡ at + 1 → k ≡ at + 2 
     → le 4 (getD s at 0 ∷ getD s j 0 ∷ getD s k 0 ∷ getD s l 0 ∷ []) 0 ≡ le 4 s at
 unfolding le
 le-four s at j k l ej ek el =
-    let second : k ≡ at + 1 + 1 = omega arith in
-    let third : l ≡ at + 1 + 1 + 1 = omega arith in
-    rw (ej, second, third)
+    let third : k ≡ at + 1 + 1 = omega arith in
+    let fourth : l ≡ at + 1 + 1 + 1 = omega arith in
+    rw (ej, third, fourth)
 
 -- n bytes and the m after them: the number of the first, and behind it that of the others
 le-split : (n m : ℕ) (s : List ℕ) (at : ℕ) → le (n + m) s at ≡ le n s at + 256 ^ n * le m s (at + n)

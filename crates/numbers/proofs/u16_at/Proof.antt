@@ -1,8 +1,8 @@
 -- `numbers::u16_at` meets its contract: past the end it is 0; else byte by byte, or from its two bytes.
 use mathlib.Core.Path.{sym, _∙_}
-use Rattle.numbers.proofs.LittleEndian.{le-past, le-two}
 use native.Mathlib.Omega.{arith}
 use borrow.Author.Needs.{needs}
+use Rattle.numbers.proofs.LittleEndian.{le-past, le-two}
 use Rattle.numbers.proofs.u16_at.Statement.{statement}
 use Rattle.numbers.proofs.u16_at.Tie as tie
 

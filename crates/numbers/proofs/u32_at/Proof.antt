@@ -1,7 +1,7 @@
 -- `numbers::u32_at` meets its contract: past the end it is 0; else byte by byte, or from one word.
 use mathlib.Core.Path.{sym}
-use Rattle.numbers.proofs.LittleEndian.{le-past}
 use borrow.Author.Needs.{needs}
+use Rattle.numbers.proofs.LittleEndian.{le-past}
 use Rattle.numbers.proofs.u32_at.Statement.{statement}
 use Rattle.numbers.proofs.u32_at.Tie as tie
 

@@ -1,7 +1,7 @@
 -- `numbers::u32_of` meets its contract: its sum is the number of the four bytes.
 use native.Mathlib.Omega.{arith}
-use Rattle.numbers.specs.LittleEndian.{le}
 use borrow.Author.Needs.{needs}
+use Rattle.numbers.specs.LittleEndian.{le}
 use Rattle.numbers.proofs.u32_of.Statement.{statement}
 use Rattle.numbers.proofs.u32_of.Tie as tie
 

@@ -1,8 +1,8 @@
 -- `numbers::u64_at` meets its contract: past the end it is 0; else byte by byte, or from two words.
 use mathlib.Core.Path.{sym, _∙_}
 use native.Mathlib.Omega.{arith}
-use Rattle.numbers.proofs.LittleEndian.{le-halves, le-past}
 use borrow.Author.Needs.{needs}
+use Rattle.numbers.proofs.LittleEndian.{le-halves, le-past}
 use Rattle.numbers.proofs.u64_at.Statement.{statement}
 use Rattle.numbers.proofs.u64_at.Tie as tie
 

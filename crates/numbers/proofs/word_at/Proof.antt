@@ -2,8 +2,8 @@
 use mathlib.Core.Path.{refl, _∙_}
 use native.Mathlib.Omega.{arith}
 use denote.Ref.{now}
-use Rattle.numbers.proofs.LittleEndian.{le-four, word-parts}
 use borrow.Author.Needs.{needs}
+use Rattle.numbers.proofs.LittleEndian.{le-four, word-parts}
 use Rattle.numbers.proofs.word_at.Statement.{statement}
 use Rattle.numbers.proofs.word_at.Tie as tie
 

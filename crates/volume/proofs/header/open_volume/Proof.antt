@@ -21,12 +21,21 @@ read-on : (c : tie.After-enum-told) → firstRefusal (bytesRefusals (bytes c)) �
 unfolding refusalOf
 read-on c = sym (c .before .before .bytes-refusal .ensures) ∙ ap refusalOf (c .enum-told .given .1)
 
--- the places after the map is read and before the parts are, one from the next
+-- the places where the parts are read, one from the next
 abbrev read : tie.After-fields-refusal → tie.After-read-map
 read c = c .before .before .before
 
+abbrev attributed : tie.After-read-map → tie.After-u32-at
+attributed c = c .before .before
+
+abbrev measured : tie.After-read-map → tie.After-u64-at
+measured c = attributed c .before
+
+abbrev counted : tie.After-read-map → tie.After-u16-at
+counted c = measured c .before
+
 abbrev begun : tie.After-read-map → tie.After-enum-told
-begun c = c .before .before .before .before .before
+begun c = counted c .before
 
 -- the parts that the second table judges are those of the header's state
 module _ (c : tie.After-fields-refusal) where
@@ -36,14 +45,12 @@ module _ (c : tie.After-fields-refusal) where
   abbrev base : ℕ
   base = begun (read c) .before .before .before .before .args .base
 
-  parts : let told = read c in
-      stateWith (guidAt header) (told .before .before .before .u64-at .result) (told .before .before .u32-at .result) base
-      ((told .before .before .before .before .u16-at .result - 64) / 8) (told .read-map .last .1 .1 .0)
+  parts : stateWith (guidAt header) (measured (read c) .u64-at .result) (attributed (read c) .u32-at .result) base
+      ((counted (read c) .u16-at .result - 64) / 8) (read c .read-map .last .1 .1 .0)
       ≡ stateAt header base
   parts =
-      let told = read c in
-      state-parts header base (told .before .before .before .u64-at .ensures) (told .before .before .u32-at .ensures)
-      (ap entriesOf (told .before .before .before .before .u16-at .ensures)) (told .read-map .ensures)
+      state-parts header base (measured (read c) .u64-at .ensures) (attributed (read c) .u32-at .ensures) (ap entriesOf (counted (read c) .u16-at .ensures))
+      (read c .read-map .ensures)
 
   judged : refusalOf (c .fields-refusal .result) ≡ firstRefusal (fieldsRefusals header (stateAt header base))
   judged = rw parts at (c .fields-refusal .ensures (guidAt header))
