@@ -57,9 +57,9 @@ def shown(data):
 
 def state_fields(state):
     if state is None:
-        return [0, 0, 0, 0, "00" * 16, ""]
+        return [0, 0, 0, 0, 0, "00" * 16, ""]
     map_words = "".join("%d:%d," % (i, w) for i, w in enumerate(state.map) if w)
-    return [state.length, state.attributes, state.entries, state.base, state.guid.hex(), map_words]
+    return [state.length, state.attributes, state.edition, state.entries, state.base, state.guid.hex(), map_words]
 
 
 def blocks(data):
@@ -103,16 +103,33 @@ def opening(name, own, lent, base=0, pattern=ERASED, working=WORKING):
     return Case(name, script, [line(name, "open", no, *state_fields(state))], [no])
 
 
-def header_writing(name, room, guid, length, attributes, map_words, pattern=PATTERN):
+def writing(name, word, what, room, guid, length, attributes, map_words, pattern, write, more):
+    """Either writer: what it does to a room, and the script items that stand after those of both."""
     before = prepared(b"", pattern, ROOM)
     after = bytearray(before)
     part = after[:room]
-    no, size = volume.write_header(part, guid, length, attributes, map_words)
+    no, size = write(part)
     after[:room] = part
-    script = items(name.encode(), number(1), number(room), guid, number(length),
-                   words([attributes], 4), words(map_words, 4), pattern_item(pattern), b"")
+    script = items(name.encode(), number(what), number(room), guid, number(length),
+                   words([attributes], 4), words(map_words, 4), pattern_item(pattern), b"", *more)
     fields = answer_fields(no, size) + change_fields(before, after)
-    return Case(name, script, [line(name, "write header", *fields)], [no])
+    return Case(name, script, [line(name, word, *fields)], [no])
+
+
+def header_writing(name, room, guid, length, attributes, map_words, pattern=PATTERN):
+    return writing(name, "write header", 1, room, guid, length, attributes, map_words, pattern,
+                   lambda part: volume.write_header(part, guid, length, attributes, map_words), [])
+
+
+def pi_header_writing(name, room, guid, length, attributes, offset, map_words, pattern=PATTERN):
+    return writing(name, "write pi header", 7, room, guid, length, attributes, map_words, pattern,
+                   lambda part: volume.write_pi_header(part, guid, length, attributes, offset, map_words), [words([offset], 2)])
+
+
+def ext_entry(name, own, lent, n, pattern=ERASED, working=WORKING):
+    answer = volume.ext_entry(prepared(own, pattern, working)[:lent], n)
+    script = items(name.encode(), number(8), number(lent), number(n), own, pattern_item(pattern))
+    return Case(name, script, [line(name, "ext entry", n, *answer_fields(*answer))], [answer[0]])
 
 
 def word_sums(name, data):
@@ -133,7 +150,7 @@ def listing(name, own, lent, room=LISTING, pattern=ERASED):
 
 def state_item(state):
     return items(state.guid, number(state.length), words([state.attributes], 4),
-                 number(state.base), number(state.entries), words(state.map, 4))
+                 number(state.base), words([state.edition], 4), number(state.entries), words(state.map, 4))
 
 
 # What a call gives: its word, the arguments shown, the answer, further fields, the state, its script.

@@ -1,7 +1,7 @@
-"""Opening, header writing, listing and the word sum.
+"""Opening, header writing, listing and the word sum. What edition 2 has of its own is in editions.py.
 
 A line of a case: its name, the call, and
-  open          number, length, attributes, entries, base, GUID, map words (zeros on a refusal)
+  open          number, length, attributes, edition, entries, base, GUID, map words (zeros on a refusal)
   write header  number, header length on success, the room's change
   list          number, length of the text on success, the text with | for a line feed
   word sum      the sum after each word, and of all the bytes, in hexadecimal
@@ -26,10 +26,10 @@ def total(map_words):
     return sum(map_words[i] * map_words[i + 1] for i in range(0, len(map_words), 2))
 
 
-def header(map_words=A_MAP, length=None, attributes=A_ATTRIBUTES, guid=NO_GUID, patches=(), summed=True):
+def header(map_words=A_MAP, length=None, attributes=A_ATTRIBUTES, guid=NO_GUID, patches=(), summed=True, edition=1, offset=0):
     """A header with patches (place, bytes), its word sum put right unless told otherwise."""
     length = total(map_words) if length is None else length
-    data = header_bytes(guid, length, attributes, map_words)
+    data = header_bytes(guid, length, attributes, map_words, edition, offset)
     for place, patch in patches:
         data[place:place + len(patch)] = patch
     if summed:
@@ -62,7 +62,7 @@ def length_cases():
 def field_cases():
     for place in range(40, 44):
         yield opening("signature byte %d wrong: 102" % place, patched(place, A[place] ^ 1), 2048)
-    for revision in (0, 2, 255):
+    for revision in (0, 3, 255):
         yield opening("revision %d: 103" % revision, patched(55, revision), 2048)
     for size in (0, 8, 64, 65, 71, 73, 74, 76, 79, 328, 336, 65528, 65535):
         own = header(FULL_MAP, patches=[(48, size.to_bytes(2, "little"))], summed=False)
@@ -212,7 +212,7 @@ def good_cases():
 FAULTS = {
     101: ([], {"lent": 71}),
     102: ([(40, b"\x00")], {}),
-    103: ([(55, b"\x02")], {}),
+    103: ([(55, b"\x03")], {}),
     104: ([(48, b"\x48\x01")], {}),
     105: ([], {"summed": False}),
     106: ([(64, b"\x01")], {}),
@@ -223,14 +223,18 @@ FAULTS = {
 }
 
 
+def broken(*numbers, **fields):
+    """A header with these faults, how many bytes of the volume are lent, and the base."""
+    patches = [patch for no in numbers for patch in FAULTS[no][0]]
+    ways = {way: value for no in reversed(numbers) for way, value in FAULTS[no][1].items()}
+    own = bytearray(header(patches=patches, **fields))
+    own[50] ^= 0 if ways.get("summed", True) else 1
+    return bytes(own), ways.get("lent", 2048), ways.get("base", 0)
+
+
 def fault_pairs():
     for first, second in combinations(FAULTS, 2):
-        patches = FAULTS[first][0] + FAULTS[second][0]
-        ways = {**FAULTS[second][1], **FAULTS[first][1]}
-        own = bytearray(header(patches=patches))
-        if not ways.get("summed", True):
-            own[50] ^= 1
-        yield opening("%d and %d at once: %d" % (first, second, first), bytes(own), ways.get("lent", 2048), ways.get("base", 0))
+        yield opening("%d and %d at once: %d" % (first, second, first), *broken(first, second))
     everything = [patch for patches, _ in FAULTS.values() for patch in patches]
     yield opening("every fault but 101 at once: 102", header(patches=everything, summed=False), 1024, 4)
 
@@ -291,10 +295,8 @@ def listing_cases():
     yield listing("no room: 5", A, 2048, 0)
     yield listing("room of 11 for a refusal of 12 bytes: 5", A, 71, 11)
     yield listing("room of 12 for a refusal", A, 71, 12)
-    for number, (patches, ways) in list(FAULTS.items())[:-1]:
-        own = bytearray(header(patches=patches))
-        own[50] ^= 0 if ways.get("summed", True) else 1
-        yield listing("fault %d" % number, bytes(own), ways.get("lent", 2048))
+    for no in list(FAULTS)[:-1]:
+        yield listing("fault %d" % no, *broken(no)[:2])
 
 
 def cases():

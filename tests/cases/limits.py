@@ -1,11 +1,12 @@
 """At the limits: 16,777,216 bytes of a volume or a stream, 16,777,215 of a section.
 
-The lines are those of headers.py and streams.py. Bodies of one byte value with a mark at each end.
+The lines are those of headers.py, editions.py and streams.py. Bodies of one byte value with a mark at each end.
 """
 
+from cases.editions import entry, extended, image
 from cases.headers import header
 from cases.streams import BODY, COMPRESSION, FREE_FORM, RAW, VERSION, compression, section
-from trial import ERASED, appending, opening, searching
+from trial import ERASED, appending, ext_entry, opening, searching
 
 LIMIT = 16777216        # bytes of a volume, and of a stream
 LARGEST = LIMIT - 1     # bytes of a section
@@ -20,6 +21,25 @@ def open_cases():
     yield opening("16,777,217 bytes: 107", header([1, LIMIT + 1]), ROOM, working=ROOM)
     yield opening("16,777,217 bytes in two blocks: 107", header([1, LIMIT, 1, 1]), ROOM, working=ROOM)
     yield opening("65,537 blocks, all there: 107", header([65537, 255]), ROOM, working=ROOM)
+
+
+# 65,535 is the largest size of an entry, and 256 of them behind byte 256 end with the volume. FF all over is such an entry of type 65,535.
+LARGEST_ENTRIES = 20 + 256 * 65535
+
+
+def extended_cases():
+    full = image(extended(size=LARGEST_ENTRIES), 236, [1, LIMIT])
+    yield "open", opening("edition 2, 256 entries of 65,535 bytes, open", full, LIMIT, working=ROOM)
+    late = image(extended(size=LARGEST_ENTRIES), 237, [1, LIMIT])
+    yield "open", opening("edition 2, 256 entries of 65,535 bytes, one byte past the volume: 112", late, ROOM, working=ROOM)
+    for n in (0, 255):
+        yield "ext entry", ext_entry("entry %d of 256" % n, full, LIMIT, n, working=ROOM)
+    yield "ext entry", ext_entry("entry 256 of 256: 14", full, LIMIT, 256, working=ROOM)
+    count = (LIMIT - 92) // 4
+    many = image(extended(entry(4) * count), map_words=[1, LIMIT])
+    yield "ext entry", ext_entry("the last of 4,194,281 entries", many, LIMIT, count - 1, working=ROOM)
+    cut = image(extended(entry(4) * (count - 1), entry(5, body=b"")), map_words=[1, LIMIT])
+    yield "ext entry", ext_entry("the last of 4,194,281 entries one byte too long: 112", cut, LIMIT, 0, working=ROOM)
 
 
 def body(size):
@@ -78,6 +98,7 @@ def append_cases():
 def cases():
     for case in open_cases():
         yield "open", case
+    yield from extended_cases()
     for case in search_cases():
         yield "search", case
     for case in append_cases():

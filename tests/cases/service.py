@@ -12,6 +12,7 @@ and then the volume's change. Values stand beside 0 and 4 alone. README.md has t
 A name's end says which refusals the case gets.
 """
 
+from cases.editions import PI_LAWFUL, entry, extended, image
 from cases.headers import A, A_MAP, FULL_MAP, GUID, MIXED_MAP, header
 from model.volume import END_OF_LIST as END
 from model.volume import State
@@ -153,9 +154,15 @@ def erase_cases():
     yield run("erasing again changes nothing", zeros, [erase(0, 8, END), erase(0, 8, END)])
 
 
-def set_case(name, old, *wanted):
-    own = header(attributes=old)
-    return run("settings 0x%X: %s" % (old, name), own, [("settings",)] + [("set", new) for new in wanted])
+def set_case(name, old, *wanted, edition=1):
+    own = header(attributes=old, edition=edition)
+    prefix = "edition 2, " if edition == 2 else ""
+    return run("%ssettings 0x%X: %s" % (prefix, old, name), own, [("settings",)] + [("set", new) for new in wanted])
+
+
+def foreign(old, settable):
+    """The settings with one bit changed, for each bit that no call may change."""
+    return [old ^ 1 << bit for bit in range(32) if not settable >> bit & 1]
 
 
 def settings_cases():
@@ -182,6 +189,51 @@ def settings_cases():
                            ("locked, a change without its capability: 15", 0xC4, 0xC0),
                            ("a foreign bit and a missing capability: 2", 0x0E, 0x20A)):
         yield set_case(name, old, new)
+    aligned = full | 0x8000
+    yield set_case("aligned, each status changes", aligned, aligned & ~0x20, aligned & ~0x24, aligned & ~4, aligned)
+    yield set_case("aligned, no lock bits of edition 2: 2", aligned, full, aligned | 0x2000, aligned ^ 0xA000, aligned | 0x1000)
+
+
+READ_LOCK, WRITE_LOCK = 0x2000, 0x8000
+FREE = 0x587F           # both statuses on, every capability of edition 2, erases to ones, no lock
+
+
+def lock_cases():
+    """The settings of edition 2. A refused call leaves the settings, so that the next one starts from the same."""
+    def case(name, old, *wanted):
+        return set_case(name, old, *wanted, edition=2)
+    both = READ_LOCK | WRITE_LOCK
+    yield case("each foreign bit changed: 2", FREE, *foreign(FREE, 0xA0A4))
+    yield case("as they are, clear and raise each status", FREE, FREE, FREE & ~4, FREE, FREE & ~0x20, FREE, FREE & ~0x24, FREE)
+    none = 0x800
+    yield case("no capability, raise each: 2", none, *[none | bit for bit in (4, 0x20, 0x80, READ_LOCK, WRITE_LOCK)], none)
+    yield case("no capability, clear each: 2", none | 0x24, none | 4, none | 0x20, none, none | 0x24)
+    for name, lock, possible in (("read", READ_LOCK, 0x1000), ("write", WRITE_LOCK, 0x4000)):
+        status = 4 if name == "read" else 0x20
+        other = status ^ 0x24
+        yield case("raise the %s lock without its capability: 2" % name, FREE & ~possible, FREE & ~possible | lock, FREE & ~possible | both)
+        held = FREE | lock
+        off = held & ~status
+        yield case("raise the %s lock; its status stays, the other is free: 15" % name, FREE, held, held, FREE,
+                   off, held & ~other, held, held & ~0x24, held | both, held & ~other | both)
+        yield case("clear %s and lock it in one call; it stays: 15" % name, FREE, off, held, FREE, off & ~other, off, held & ~other)
+        yield case("raise %s and lock it in one call; it stays: 15" % name, FREE & ~status, held, off, FREE & ~status, held)
+        yield case("%s locked without its capability, lower it: 15" % name, held & ~possible, FREE & ~possible, held & ~possible)
+    yield case("one lock lowered and the other raised, both, one lowered, both: 15", FREE | READ_LOCK,
+               FREE | WRITE_LOCK, FREE | both, FREE | READ_LOCK, FREE | WRITE_LOCK, FREE)
+    shut = FREE | 0x80
+    yield case("locked in general, each change: 15", shut, shut & ~4, shut & ~0x20, FREE, shut | READ_LOCK, shut | WRITE_LOCK, shut | both, shut)
+    every = FREE | both | 0x80
+    yield case("every lock in one call, each change: 15", FREE, every, *[every & ~bit for bit in (4, 0x20, 0x80, READ_LOCK, WRITE_LOCK)], every)
+    yield case("foreign bits before the locks: 2", every,
+               *[every ^ 4 ^ bit for bit in (0x200, 0x1000, 0x4000, 0x10000, 0x80000000)], every ^ READ_LOCK ^ 0x200, FREE ^ 0x800)
+    held = (FREE | READ_LOCK) & ~9
+    yield case("the locks before a capability, in read: 15", held, held & ~0x24, held & ~4, held & ~0x20 & ~READ_LOCK)
+    held = (FREE | WRITE_LOCK) & ~9
+    yield case("the locks before a capability, in write: 15", held, held & ~0x24, held & ~0x20, held & ~4 & ~WRITE_LOCK)
+    held = FREE & ~0x49 | READ_LOCK
+    yield case("read locked, changes without their capability: 2", held, held & ~0x20, held | 0x80, held & ~0x20 | WRITE_LOCK)
+    yield case("clear read without its capability and lock it: 2", FREE & ~1, FREE & ~1 & ~4 | READ_LOCK)
 
 
 def enabled_cases():
@@ -196,6 +248,9 @@ def enabled_cases():
     yield run("disabled before no such block: 15", own, [read(4, 0, 1), write(4, 0, b"\x00"), erase(4, 1, END)])
     yield run("disabled before a bad list: 15", own, [erase(), erase(0, 0, END), erase(3, 2, END)])
     yield run("settings locked, reads and writes still work: 15", header(attributes=ALL | 0xC0), [("set", 0xFF & ~4)] + calls)
+    own = header(attributes=FREE, edition=2)
+    yield run("edition 2, locked and on, reads and writes still work: 15", own, [("set", FREE | READ_LOCK | WRITE_LOCK), ("set", FREE)] + calls[:3])
+    yield run("edition 2, locked and off: 15", own, [("set", FREE & ~0x24 | READ_LOCK | WRITE_LOCK), ("set", FREE)] + calls[:3])
 
 
 def lent_cases():
@@ -225,15 +280,21 @@ def header_gone_cases():
     yield run("another header written over, the first one's blocks stay", own, [write(0, 0, fake), ("size", 0), ("size", 3), read(3, 0, 4)])
 
 
-def given(map_words=A_MAP, length=2048, attributes=ALL | ONES, base=0, entries=None, beyond=()):
+def given(map_words=A_MAP, length=2048, attributes=ALL | ONES, base=0, entries=None, beyond=(), edition=1):
     table = list(map_words) + [0] * (64 - len(map_words))
     for place, word in beyond:
         table[place] = word
-    return State(GUID, length, attributes, len(map_words) // 2 if entries is None else entries, table, base)
+    return State(GUID, length, attributes, base, edition, len(map_words) // 2 if entries is None else entries, table)
 
 
 EVERY_CALL = [("settings",), ("set", ALL | ONES), ("set", 0), ("address",), ("size", 0), ("size", 9), read(0, 0, 4),
               write(0, 0, b"\x00"), erase(0, 1, END), erase()]
+REFUSED_CALLS = [read(9, 0, 1, 0), write(9, 0, b"", 0), erase(lent=0), ("address",), ("size", 9), ("set", 1)]    # by 5, 15, 2 or 3
+
+
+def seven_calls(settings):
+    """Each of the seven calls, as a mapped volume with both statuses on carries it out."""
+    return [("settings",), ("set", settings), ("address",), ("size", 0), read(0, 0, 4), write(0, 0, b"\x00"), erase(0, 1, END)]
 
 
 def unlawful_cases():
@@ -255,8 +316,23 @@ def unlawful_cases():
     for name, state in ways.items():
         yield run("state with %s: 111" % name, b"", EVERY_CALL, state=state)
     state = given(length=2049, attributes=ONES)
-    calls = [read(9, 0, 1, 0), write(9, 0, b"", 0), erase(lent=0), ("address",), ("size", 9), ("set", 1)]
-    yield run("111 before 5, 15, 2 and 3: 111", b"", calls, state=state)
+    yield run("111 before 5, 15, 2 and 3: 111", b"", REFUSED_CALLS, state=state)
+
+
+def edition_cases():
+    """111 by edition, for each of the seven calls; and 108 by edition."""
+    mapped = ALL | ONES | MAPPED
+    for edition in (0, 3, 0x102, 2**32 - 1):
+        yield run("state of edition 0x%X: 111" % edition, b"", EVERY_CALL, state=given(edition=edition))
+        yield run("state of edition 0x%X, mapped: 111" % edition, b"", seven_calls(mapped), state=given(attributes=mapped, edition=edition))
+    for edition, settings in ((1, mapped), (1, 0xFFFF8EFF), (2, mapped), (2, PI_LAWFUL)):
+        for base in (0, 8):
+            state = given(attributes=settings, base=base, edition=edition)
+            yield run("state of edition %d with 0x%X at %d, the seven calls" % (edition, settings, base), b"", seven_calls(settings), state=state)
+    yield run("111 for the edition before 5, 15, 2 and 3: 111", b"", REFUSED_CALLS, state=given(attributes=ONES, edition=0x102))
+    for edition, attributes, lawful in ((1, 0x1000, False), (2, 0x1000, True), (1, 0x208000, True), (2, 0x208000, False)):
+        name = "state of edition %d with 0x%X%s" % (edition, attributes, "" if lawful else ": 111")
+        yield run(name, b"", [("settings",), ("set", attributes), ("size", 0)], state=given(attributes=attributes, edition=edition))
 
 
 def lawful_cases():
@@ -280,10 +356,24 @@ def run_cases():
     calls = [erase(2, 3, END), write(4, 120, range(16)), write(5, 0, range(16)), read(4, 120, 16), read(5, 0, 16),
              erase(4, 1, END), read(4, 120, 8), read(5, 0, 16)]
     yield run("a run over a mixed map", MIXED, calls)
+    locked = FREE & ~4 | READ_LOCK
+    calls = [read(1, 0, 4), ("set", locked), read(1, 0, 4), ("set", FREE | READ_LOCK), write(1, 8, b"\x0f"), ("set", locked & ~0x20),
+             write(1, 8, b"\xf0"), ("set", locked), erase(1, 1, END), ("set", FREE), ("set", locked | WRITE_LOCK),
+             ("set", (locked | WRITE_LOCK) & ~0x20), erase(2, 1, END), write(2, 0, b"\x33"), read(2, 0, 4), ("set", locked | WRITE_LOCK | 0x80),
+             ("set", locked), ("settings",), ("size", 0), read(0, 0, 0), ("set", locked | WRITE_LOCK | 0x80)]
+    yield run("a run of edition 2, locks raised one by one: 15", header(attributes=FREE, edition=2), calls)
+    calls = seven_calls(FREE | MAPPED | READ_LOCK | WRITE_LOCK)
+    yield run("edition 2, opened, the seven calls", header(attributes=FREE | MAPPED, edition=2), calls, base=64)
+    own = image(extended(entry(4), entry(5)), 96, MIXED_MAP, attributes=FREE | MAPPED)
+    yield run("edition 2, opened with an extended header, the seven calls", own, calls, base=64)
+    own = image(extended(entry(4, 1)), attributes=FREE)
+    calls = [write(0, 72, bytes(24)), ("settings",), ("size", 0), read(0, 72, 4), erase(0, 1, END), ("set", FREE)]
+    yield run("the extended header overwritten, the state stays", own, calls)
 
 
 def cases():
     for group in (sample_cases, erase_page_cases, size_cases, address_cases, moving_cases, write_rule_cases, erase_cases,
-                  settings_cases, enabled_cases, lent_cases, header_gone_cases, unlawful_cases, lawful_cases, run_cases):
+                  settings_cases, lock_cases, enabled_cases, lent_cases, header_gone_cases, unlawful_cases, edition_cases,
+                  lawful_cases, run_cases):
         for case in group():
             yield "service", case

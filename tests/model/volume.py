@@ -1,5 +1,6 @@
-"""Firmware volumes, as the scope document describes them, with requests b and
-d of 02: opening, header writing and the seven calls of the block service.
+"""Firmware volumes, as the scope document describes them, with requests a, b and
+d of 02: opening, header writing, the seven calls of the block service and the
+entries of the extended header.
 
 Every function answers (number, values...): 0 for success, 4 for short, else
 the refusal number. Lent bytes are bytearrays and are changed in place.
@@ -12,16 +13,20 @@ READ_DISABLE, READ_ENABLE, READ_STATUS = 0x1, 0x2, 0x4
 WRITE_DISABLE, WRITE_ENABLE, WRITE_STATUS = 0x8, 0x10, 0x20
 LOCK_POSSIBLE, LOCKED = 0x40, 0x80
 STICKY_WRITE, MEMORY_MAPPED, ERASE_ONE = 0x200, 0x400, 0x800
-ALIGNMENT_SUPPORTED, ALIGNMENTS = 0x8000, 0xFFFF0000
-FORBIDDEN = 0x100 | 0x1000 | 0x2000 | 0x4000
+ALIGNMENT_SUPPORTED, ALIGNMENTS = 0x8000, 0xFFFF0000            # edition 1
+FORBIDDEN = 0x100 | 0x1000 | 0x2000 | 0x4000                    # edition 1
+READ_LOCK_POSSIBLE, READ_LOCKED = 0x1000, 0x2000                # edition 2
+WRITE_LOCK_POSSIBLE, WRITE_LOCKED = 0x4000, 0x8000              # edition 2
+PI_FORBIDDEN = 0x7FE00100                                       # edition 2
 
 MAX_ENTRIES, MAX_BLOCKS, MAX_LENGTH = 32, 65536, 16777216
 SIGNATURE = bytes([0x5F, 0x46, 0x56, 0x48])
 END_OF_LIST = 2**64 - 1
 
-# entries is the number of map entries that count; map holds 64 words, a count
-# and a length for each entry, zero beyond the entries.
-State = namedtuple("State", "guid length attributes entries map base")
+# edition is the header's revision; entries is the number of map entries that
+# count; map holds 64 words, a count and a length for each entry, zero beyond
+# the entries.
+State = namedtuple("State", "guid length attributes base edition entries map")
 
 
 def number(data, place, width):
@@ -58,7 +63,9 @@ def breaks_107(pairs, length):
             or 64 + 8 * len(pairs) > length)
 
 
-def breaks_108(attributes):
+def breaks_108(edition, attributes):
+    if edition == 2:
+        return attributes & PI_FORBIDDEN != 0
     if attributes & FORBIDDEN:
         return True
     return not attributes & ALIGNMENT_SUPPORTED and attributes & ALIGNMENTS != 0
@@ -68,13 +75,35 @@ def breaks_110(attributes, base):
     return attributes & MEMORY_MAPPED != 0 and base % 8 != 0
 
 
+def extended_entries(data, header_length, length):
+    """(first byte in the volume, size, type) of each entry of the extended header, or None where 112 is due"""
+    offset = number(data, 52, 2) if data[55] == 2 else 0
+    if offset == 0:
+        return []
+    if offset < header_length or offset + 20 > length:
+        return None
+    size = number(data, offset + 16, 4)
+    place, end = offset + 20, offset + size
+    if size < 20 or end > length:
+        return None
+    entries = []
+    while place < end:
+        entry_size = number(data, place, 2)
+        if end - place < 4 or entry_size < 4 or place + entry_size > end:
+            return None
+        entries.append((place, entry_size, number(data, place + 2, 2)))
+        place += entry_size
+    return entries
+
+
 def open_volume(data, base):
     """(number, state or None)"""
     if len(data) < 72:
         return 101, None
     if data[40:44] != SIGNATURE:
         return 102, None
-    if data[55] != 1:
+    edition = data[55]
+    if edition not in (1, 2):
         return 103, None
     header_length = number(data, 48, 2)
     if header_length % 8 or not 72 <= header_length <= 320 or header_length > len(data):
@@ -88,17 +117,19 @@ def open_volume(data, base):
     length, attributes = number(data, 32, 8), number(data, 44, 4)
     if breaks_107(pairs[:-1], length):
         return 107, None
-    if breaks_108(attributes):
+    if breaks_108(edition, attributes):
         return 108, None
     if len(data) < length:
         return 109, None
     if breaks_110(attributes, base):
         return 110, None
+    if extended_entries(data, header_length, length) is None:
+        return 112, None
     table = words[:-2] + [0] * (64 - len(words[:-2]))
-    return 0, State(bytes(data[16:32]), length, attributes, len(pairs) - 1, table, base)
+    return 0, State(bytes(data[16:32]), length, attributes, base, edition, len(pairs) - 1, table)
 
 
-def header_bytes(guid, length, attributes, words):
+def header_bytes(guid, length, attributes, words, edition=1, offset=0):
     """The header with its checksum worked out; no test of the values."""
     header = bytearray(64 + 4 * len(words))
     header[16:32] = guid
@@ -106,35 +137,54 @@ def header_bytes(guid, length, attributes, words):
     header[40:44] = SIGNATURE
     header[44:48] = attributes.to_bytes(4, "little")
     header[48:50] = len(header).to_bytes(2, "little")
-    header[55] = 1
+    header[52:54] = offset.to_bytes(2, "little")
+    header[55] = edition
     for i, word in enumerate(words):
         header[56 + 4 * i:60 + 4 * i] = word.to_bytes(4, "little")
     header[50:52] = ((-word_sum(header)) % 65536).to_bytes(2, "little")
     return header
 
 
-def write_header(room, guid, length, attributes, words):
+def write_edition(room, guid, length, attributes, words, edition, offset):
     """(number, header length or 0)"""
     if any(word == 0 for word in words) or len(words) % 2:
         return 106, 0
     if breaks_107(pairs_of(words), length):
         return 107, 0
-    if breaks_108(attributes):
+    if breaks_108(edition, attributes):
         return 108, 0
     size = 64 + 4 * len(words)
     if len(room) < size:
         return 5, 0
-    room[:size] = header_bytes(guid, length, attributes, words)
+    room[:size] = header_bytes(guid, length, attributes, words, edition, offset)
     return 0, size
 
 
+def write_header(room, guid, length, attributes, words):
+    return write_edition(room, guid, length, attributes, words, 1, 0)
+
+
+def write_pi_header(room, guid, length, attributes, offset, words):
+    return write_edition(room, guid, length, attributes, words, 2, offset)
+
+
+def ext_entry(data, n):
+    """(number, first byte in the volume, size, type) of the extended header's entry n, counted from 0"""
+    no, state = open_volume(data, 0)
+    if no:
+        return no, 0, 0, 0
+    entries = extended_entries(data, 64 + 8 * state.entries, state.length)
+    return (0, *entries[n]) if n < len(entries) else (14, 0, 0, 0)
+
+
 def unlawful(state):
-    """111: the state breaks 106, 107, 108 or 110, or is not zero beyond its entries."""
+    """111: another edition, or the state breaks 106, 107, 108 or 110, or is not zero beyond its entries."""
     pairs = pairs_of(state.map)[:state.entries]
-    return (state.entries > MAX_ENTRIES
+    return (state.edition not in (1, 2)
+            or state.entries > MAX_ENTRIES
             or has_zero_word(pairs)
             or breaks_107(pairs, state.length)
-            or breaks_108(state.attributes)
+            or breaks_108(state.edition, state.attributes)
             or breaks_110(state.attributes, state.base)
             or any(state.map[2 * state.entries:]))
 
@@ -160,21 +210,33 @@ def get_attributes(state):
     return (111, 0) if unlawful(state) else (0, state.attributes)
 
 
+def lock_refuses(edition, old, wanted):
+    """15 of the settings: the general lock; in edition 2 also a status already locked that would change, or a lock bit lowered."""
+    changed = old ^ wanted
+    if old & LOCKED and changed:
+        return True
+    return edition == 2 and (old & READ_LOCKED != 0 and changed & (READ_STATUS | READ_LOCKED) != 0
+                             or old & WRITE_LOCKED != 0 and changed & (WRITE_STATUS | WRITE_LOCKED) != 0)
+
+
+# A bit that the settings may change, what raising it asks for, what clearing it asks for.
+SETTINGS = {1: [(READ_STATUS, READ_ENABLE, READ_DISABLE), (WRITE_STATUS, WRITE_ENABLE, WRITE_DISABLE), (LOCKED, LOCK_POSSIBLE, 0)]}
+SETTINGS[2] = SETTINGS[1] + [(READ_LOCKED, READ_LOCK_POSSIBLE, 0), (WRITE_LOCKED, WRITE_LOCK_POSSIBLE, 0)]
+
+
 def set_attributes(state, wanted):
     """(number, settings, state)"""
     if unlawful(state):
         return 111, 0, state
     old = state.attributes
     changed = old ^ wanted
-    if changed & ~(READ_STATUS | WRITE_STATUS | LOCKED):
+    if changed & ~sum(bit for bit, _, _ in SETTINGS[state.edition]):
         return 2, 0, state
-    if old & LOCKED and changed:
+    if lock_refuses(state.edition, old, wanted):
         return 15, 0, state
-    for status, raise_by, clear_by in ((READ_STATUS, READ_ENABLE, READ_DISABLE),
-                                       (WRITE_STATUS, WRITE_ENABLE, WRITE_DISABLE),
-                                       (LOCKED, LOCK_POSSIBLE, 0)):
-        capability = raise_by if wanted & status else clear_by
-        if changed & status and not old & capability:
+    for bit, raise_by, clear_by in SETTINGS[state.edition]:
+        capability = raise_by if wanted & bit else clear_by
+        if changed & bit and not old & capability:
             return 2, 0, state
     return 0, wanted, state._replace(attributes=wanted)
 

@@ -12,7 +12,8 @@ use lib.ListN.{length, getD, take, drop}
 use Rattle.common.specs.Answers.{refused, success}
 use Rattle.common.specs.Lists.{edit}
 use Rattle.common.specs.Refusals.{firstRefusal}
-use Rattle.volume.specs.Attributes.{flag, readStatus, writeStatus, lockStatus, stickyWrite, memoryMapped, erasePolarity}
+use Rattle.common.proofs.Bits.{bit}
+use Rattle.volume.specs.Attributes.{flag, readStatus, writeStatus, lockStatus, readLockStatus, writeLockStatus, stickyWrite, memoryMapped, erasePolarity}
 use Rattle.volume.specs.BlockMap.{blocks}
 use Rattle.volume.specs.State.{mapOf, unlawful}
 use Rattle.volume.specs.declared.state.State.{State}
@@ -21,7 +22,7 @@ use Rattle.block_service.specs.Blocks.{place, HasLength, startOf, consec
 use Rattle.block_service.specs.Erase.{endOfList, goodList, names, eraseChange}
 use Rattle.block_service.specs.Service.{Call, getAttributes, getPhysicalAddress, setAttributes, getBlockSize, read, write, eraseBlocks}
 use Rattle.block_service.specs.Service.{refusals, moveAnswer, withAttributes, result, bufferOf, step}
-use Rattle.block_service.specs.Settings.{changesFixed, lacksCapability}
+use Rattle.block_service.specs.Settings.{statusBits, changesFixed, changesLocked, lacksCapability}
 use Rattle.block_service.specs.declared.blocks.Place.the-variants.{At}
 use Rattle.block_service.proofs.access.Moves as Moves
 use Rattle.block_service.proofs.blocks.Places as Places
@@ -145,12 +146,15 @@ refused-changes-nothing = Steps.refused-changes-nothing
 pub past-length-kept : (st : State) (v : List ℕ) (c : Call) (i : ℕ) → st .length ≤ i → getD (step st v c .volume) i 0 ≡ getD v i 0
 past-length-kept = Kept.past-length-kept
 
--- nor do the length of the lent volume, the map, and that the state breaks no rule
+-- nor do the length of the lent volume, the map, the edition, and that the state breaks no rule
 pub length-kept : (st : State) (v : List ℕ) (c : Call) → length (step st v c .volume) ≡ length v
 length-kept = Kept.length-kept
 
 pub map-kept : (st : State) (v : List ℕ) (c : Call) → mapOf (step st v c .state) ≡ mapOf st
 map-kept = Kept.map-kept
+
+pub edition-kept : (st : State) (v : List ℕ) (c : Call) → step st v c .state .edition ≡ st .edition
+edition-kept = Kept.edition-kept
 
 pub lawful-kept : (st : State) (v : List ℕ) (c : Call) → unlawful st ≡ false → unlawful (step st v c .state) ≡ false
 lawful-kept = Kept.lawful-kept
@@ -320,40 +324,37 @@ empty-list = Erasing.empty-list
 
 -- ---- set settings, of a lawful state
 
--- "any bit changed other than 4, 0x20, 0x80: 2"
-pub set-fixed : (st : State) (v : List ℕ) (new : ℕ) → unlawful st ≡ false → changesFixed (st .attributes) new ≡ true
+-- "any bit changed other than 4, 0x20, 0x80: 2", in edition 2 other than those, 0x2000 and 0x8000
+pub set-fixed : (st : State) (v : List ℕ) (new : ℕ) → unlawful st ≡ false → changesFixed (st .edition) (st .attributes) new ≡ true
     → step st v (setAttributes new) ≡ result (refused 2) st v []
 set-fixed = Setting.set-fixed
 
--- no such bit is changed exactly where the settings agree at every bit but 4 (2 ^ 2), 0x20 (2 ^ 5) and 0x80 (2 ^ 7)
-pub fixed-bits : (old new : ℕ) → changesFixed old new ≡ false → (k : ℕ) → (k ≡ 2 → ⊥) → (k ≡ 5 → ⊥) → (k ≡ 7 → ⊥)
-    → old / 2 ^ k % 2 ≡ new / 2 ^ k % 2
+-- no such bit is changed exactly where the settings agree at every bit of value 2 ^ k that is not a status's
+pub fixed-bits : (edition old new : ℕ) → changesFixed edition old new ≡ false → (k : ℕ) → bit (statusBits edition) k ≡ 0 → bit old k ≡ bit new k
 fixed-bits = Rules.fixed-bits
 
-pub bits-fixed : (old new : ℕ) → ((k : ℕ) → (k ≡ 2 → ⊥) → (k ≡ 5 → ⊥) → (k ≡ 7 → ⊥) → old / 2 ^ k % 2 ≡ new / 2 ^ k % 2)
-    → changesFixed old new ≡ false
+pub bits-fixed : (edition old new : ℕ) → ((k : ℕ) → bit (statusBits edition) k ≡ 0 → bit old k ≡ bit new k) → changesFixed edition old new ≡ false
 bits-fixed = Rules.bits-fixed
 
--- "Locked and any bit changed: 15"
-pub set-locked : (st : State) (v : List ℕ) (new : ℕ) → unlawful st ≡ false → changesFixed (st .attributes) new ≡ false
-    → (flag (st .attributes) lockStatus && not (eqb (st .attributes) new)) ≡ true → step st v (setAttributes new) ≡ result (refused 15) st v []
+-- "Locked and any bit changed: 15", in edition 2 also "where a status already locked would change or a lock bit be lowered" (02, a)
+pub set-locked : (st : State) (v : List ℕ) (new : ℕ) → unlawful st ≡ false → changesFixed (st .edition) (st .attributes) new ≡ false
+    → changesLocked (st .edition) (st .attributes) new ≡ true → step st v (setAttributes new) ≡ result (refused 15) st v []
 set-locked = Setting.set-locked
 
 -- "A change that lacks its capability .. : 2"
-pub set-lacking : (st : State) (v : List ℕ) (new : ℕ) → unlawful st ≡ false → changesFixed (st .attributes) new ≡ false
-    → (flag (st .attributes) lockStatus && not (eqb (st .attributes) new)) ≡ false → lacksCapability (st .attributes) new ≡ true
+pub set-lacking : (st : State) (v : List ℕ) (new : ℕ) → unlawful st ≡ false → changesFixed (st .edition) (st .attributes) new ≡ false
+    → changesLocked (st .edition) (st .attributes) new ≡ false → lacksCapability (st .edition) (st .attributes) new ≡ true
     → step st v (setAttributes new) ≡ result (refused 2) st v []
 set-lacking = Setting.set-lacking
 
--- where only 4, 0x20 and 0x80 change, 2 comes of a missing capability alone
-pub set-refused-2 : (st : State) (v : List ℕ) (new : ℕ)
-    → ((k : ℕ) → (k ≡ 2 → ⊥) → (k ≡ 5 → ⊥) → (k ≡ 7 → ⊥) → st .attributes / 2 ^ k % 2 ≡ new / 2 ^ k % 2)
-    → step st v (setAttributes new) .answer ≡ refused 2 → lacksCapability (st .attributes) new ≡ true
+-- where only statuses change, 2 comes of a missing capability alone
+pub set-refused-2 : (st : State) (v : List ℕ) (new : ℕ) → ((k : ℕ) → bit (statusBits (st .edition)) k ≡ 0 → bit (st .attributes) k ≡ bit new k)
+    → step st v (setAttributes new) .answer ≡ refused 2 → lacksCapability (st .edition) (st .attributes) new ≡ true
 set-refused-2 = Setting.set-refused-2
 
 -- otherwise the settings are set, and nothing else in the state changes
-pub set-done : (st : State) (v : List ℕ) (new : ℕ) → unlawful st ≡ false → changesFixed (st .attributes) new ≡ false
-    → (flag (st .attributes) lockStatus && not (eqb (st .attributes) new)) ≡ false → lacksCapability (st .attributes) new ≡ false
+pub set-done : (st : State) (v : List ℕ) (new : ℕ) → unlawful st ≡ false → changesFixed (st .edition) (st .attributes) new ≡ false
+    → changesLocked (st .edition) (st .attributes) new ≡ false → lacksCapability (st .edition) (st .attributes) new ≡ false
     → step st v (setAttributes new) ≡ result (success (new ∷ [])) (withAttributes st new) v []
 set-done = Setting.set-done
 
@@ -361,3 +362,17 @@ set-done = Setting.set-done
 pub settings-as-they-are : (st : State) (v : List ℕ) → unlawful st ≡ false
     → step st v (setAttributes (st .attributes)) ≡ result (success (st .attributes ∷ [])) st v []
 settings-as-they-are = Setting.settings-as-they-are
+
+-- "never lowered" (02, a), at every call of edition 2: a lock that is set stays set, and the status that it keeps keeps its value. Over whole runs:
+-- `read-locked-run` and `write-locked-run` of isolation
+pub read-lock-kept : (st : State) (v : List ℕ) (c : Call) → st .edition ≡ 2 → flag (st .attributes) readLockStatus ≡ true
+    → (flag (step st v c .state .attributes) readLockStatus ≡ true) × (flag (step st v c .state .attributes) readStatus ≡ flag (st .attributes) readStatus)
+read-lock-kept = Kept.read-lock-kept
+
+pub write-lock-kept : (st : State) (v : List ℕ) (c : Call) → st .edition ≡ 2 → flag (st .attributes) writeLockStatus ≡ true
+    → (flag (step st v c .state .attributes) writeLockStatus ≡ true) × (flag (step st v c .state .attributes) writeStatus ≡ flag (st .attributes) writeStatus)
+write-lock-kept = Kept.write-lock-kept
+
+-- and in both editions a state whose settings are locked stays as it is, whatever is called
+pub locked-kept : (st : State) (v : List ℕ) (c : Call) → flag (st .attributes) lockStatus ≡ true → step st v c .state ≡ st
+locked-kept = Kept.locked-kept

@@ -70,7 +70,7 @@ lentRefusals st n status =
 -- except as said for settings; the base address 111, then 3
 unfoldable pub refusals : State → ℕ → Call → List Row
 refusals st n getAttributes = row (unlawful st) 111 ∷ []
-refusals st n (setAttributes new) = row (unlawful st) 111 ∷ settingRefusals (st .attributes) new
+refusals st n (setAttributes new) = row (unlawful st) 111 ∷ settingRefusals (st .edition) (st .attributes) new
 refusals st n getPhysicalAddress = row (unlawful st) 111 ∷ row (not (flag (st .attributes) memoryMapped)) 3 ∷ []
 refusals st n (getBlockSize block) = row (unlawful st) 111 ∷ row (leb (blocks (mapOf st)) block) 2 ∷ []
 refusals st n (read block offset buffer) = lentRefusals st n readStatus ++ (row (leb (blocks (mapOf st)) block) 2 ∷ [])
@@ -91,7 +91,7 @@ moveAnswer count n = cond (eqb count n) (success (count ∷ [])) (short (count �
 
 -- the state with other attributes
 unfoldable pub withAttributes : State → ℕ → State
-withAttributes st a = stateWith (st .guid) (st .length) a (st .base) (st .entries) (st .map)
+withAttributes st a = stateWith (st .guid) (st .length) a (st .base) (st .edition) (st .entries) (st .map)
 
 -- what a call that is not refused does
 unfoldable pub effect : State → Call → Effect

@@ -73,39 +73,53 @@ pub fn get_attributes(st: State) -> Settings
     ensures { λ r. ⌜ ((v : List ℕ) → result (settingsAnswer r) st v [] ≡ step st v getAttributes) ⌝ }
 {
     let map = st.map;
-    if unlawful_state(st.length, st.attributes, st.base, st.entries, &map) {
+    if unlawful_state(
+        st.length,
+        st.attributes,
+        st.base,
+        st.edition,
+        st.entries,
+        &map,
+    ) {
         return Settings::Refused(111);
     }
     Settings::Success(st.attributes)
 }
 
 // Sets the settings, and answers them with the state that holds them. Refused with 111; with 2 where a bit
-// changes that may not; with 15 where the settings are locked and any bit changes; with 2 where a change lacks
-// its capability. Nothing is stored in the volume.
+// changes that may not; with 15 where the settings are locked and any bit changes, in edition 2 also where a locked status
+// changes or its lock is lowered; with 2 where a change lacks its capability. Nothing is stored in the volume.
 pub fn set_attributes(st: State, new: u32) -> NewSettings
     ensures { λ r. ⌜ ((v : List ℕ) → result (settingsAnswer (r .answer)) (r .state) v [] ≡ step st v (setAttributes new)) ⌝ }
 {
     let map = st.map;
-    if unlawful_state(st.length, st.attributes, st.base, st.entries, &map) {
+    if unlawful_state(
+        st.length,
+        st.attributes,
+        st.base,
+        st.edition,
+        st.entries,
+        &map,
+    ) {
         return NewSettings {
             answer: Settings::Refused(111),
             state: st,
         };
     }
     let old = st.attributes;
-    if changes_fixed(old, new) {
+    if changes_fixed(st.edition, old, new) {
         return NewSettings {
             answer: Settings::Refused(2),
             state: st,
         };
     }
-    if changes_locked(old, new) {
+    if changes_locked(st.edition, old, new) {
         return NewSettings {
             answer: Settings::Refused(15),
             state: st,
         };
     }
-    if lacks_capability(old, new) {
+    if lacks_capability(st.edition, old, new) {
         return NewSettings {
             answer: Settings::Refused(2),
             state: st,
@@ -124,7 +138,14 @@ pub fn get_physical_address(st: State) -> Address
     ensures { λ r. ⌜ ((v : List ℕ) → result (addressAnswer r) st v [] ≡ step st v getPhysicalAddress) ⌝ }
 {
     let map = st.map;
-    if unlawful_state(st.length, st.attributes, st.base, st.entries, &map) {
+    if unlawful_state(
+        st.length,
+        st.attributes,
+        st.base,
+        st.edition,
+        st.entries,
+        &map,
+    ) {
         return Address::Refused(111);
     }
     if !is_set(st.attributes, MEMORY_MAPPED) {
@@ -139,7 +160,14 @@ pub fn get_block_size(st: State, block: u64) -> BlockSize
     ensures { λ r. ⌜ ((v : List ℕ) → result (blockSizeAnswer r) st v [] ≡ step st v (getBlockSize block)) ⌝ }
 {
     let map = st.map;
-    if unlawful_state(st.length, st.attributes, st.base, st.entries, &map) {
+    if unlawful_state(
+        st.length,
+        st.attributes,
+        st.base,
+        st.edition,
+        st.entries,
+        &map,
+    ) {
         return BlockSize::Refused(111);
     }
     let found = locate(st.entries, &map, block);
@@ -167,6 +195,7 @@ pub fn read(st: State, volume: &[u8], block: u64, offset: usize, buffer: &mut [u
         st.length,
         st.attributes,
         st.base,
+        st.edition,
         st.entries,
         &map,
         volume.len() as u64,
@@ -201,6 +230,7 @@ pub fn write(st: State, volume: &mut [u8], block: u64, offset: usize, new: &[u8]
         st.length,
         st.attributes,
         st.base,
+        st.edition,
         st.entries,
         &map,
         volume.len() as u64,
@@ -236,6 +266,7 @@ pub fn erase_blocks(st: State, volume: &mut [u8], list: &[u64]) -> Erased
         st.length,
         st.attributes,
         st.base,
+        st.edition,
         st.entries,
         &map,
         volume.len() as u64,
@@ -263,14 +294,15 @@ fn lent_refusal(
     len: u64,
     attributes: u32,
     base: u64,
+    edition: u32,
     entries: usize,
     map: &[u32; 64],
     volume_len: u64,
     status: u32,
 ) -> Lent
-    ensures { λ r. ⌜ ((guid : List ℕ) → refusalOf r ≡ firstRefusal (lentRefusals (stateWith guid len attributes base entries (now (map .entry))) «volume_len» status)) ⌝ }
+    ensures { λ r. ⌜ ((guid : List ℕ) → refusalOf r ≡ firstRefusal (lentRefusals (stateWith guid len attributes base edition entries (now (map .entry))) «volume_len» status)) ⌝ }
 {
-    if unlawful_state(len, attributes, base, entries, map) {
+    if unlawful_state(len, attributes, base, edition, entries, map) {
         return Lent::Refused(111);
     }
     if volume_len < len {

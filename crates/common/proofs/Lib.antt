@@ -1,3 +1,4 @@
+pub mod Bits
 pub mod Edit
 pub mod Lists
 pub mod Refusals

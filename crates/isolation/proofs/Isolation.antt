@@ -1,8 +1,8 @@
 -- Demand 3: the core over bytes, put in terms of blocks, and then from opening on.
 use Prim.Native.Nat.{ℕ, _+_, _≤_, _<_}
-use mathlib.Core.Path.{_≡_, refl, ap, subst}
+use mathlib.Core.Path.{_≡_, refl, ap, subst, _∙_}
 use mathlib.Core.Bool.{Bool, true, false, not, cond, _&&_, _||_}
-use mathlib.Core.List.{List, [], _∷_}
+use mathlib.Core.List.{List, [], _∷_, _++_}
 use mathlib.Core.Option.{Option, none, some}
 use native.Mathlib.Omega.{arith}
 use borrow.Author.Tests.{leb-true, ltb-true, leb-false}
@@ -11,6 +11,7 @@ use lib.ListN.{length}
 use Rattle.common.specs.Answers.{Answer, refused, success, short}
 use Rattle.common.specs.Refusals.{firstRefusal, unlessRefused}
 use Rattle.block_service.specs.Access.{countMoved, keep, erase}
+use Rattle.volume.specs.Attributes.{flag, readStatus, writeStatus, readLockStatus, writeLockStatus}
 use Rattle.volume.specs.BlockMap.{blocks}
 use Rattle.block_service.specs.Blocks.{place, inBlock, startOf, lengthOf}
 use Rattle.block_service.specs.Erase.{names, eraseChange}
@@ -23,7 +24,7 @@ use Rattle.block_service.specs.declared.blocks.Place.the-variants.{At, Missing}
 use Rattle.volume.specs.declared.state.State.{State}
 use Rattle.isolation.specs.Runs.{run, seen, isSuccess, isMoved, namesBlock, erased, Alike, NoEarlyRead, NeverErased, Isolated}
 use Rattle.block_service.proofs.blocks.Places.{inBlock-blockAt, inBlock-of-bounds, in-one-block, found-start, found-end, place-lost}
-use Rattle.block_service.proofs.service.Kept.{map-kept, lawful-kept}
+use Rattle.block_service.proofs.service.Kept.{map-kept, edition-kept, lawful-kept, read-lock-kept, write-lock-kept}
 use Rattle.volume.proofs.header.Reading.{opened-lawful}
 use Rattle.block_service.proofs.service.Steps.{allowed-step, passed-success, passed-read}
 use Rattle.isolation.proofs.Bytes.{erasesByte, isErase, copiesByte, erasedInRun, Without, Unread, same-runs}
@@ -242,3 +243,47 @@ pub opened-run-lawful : (base : ℕ) (st : State) (v : List ℕ) (before : List 
 opened-run-lawful base st v before opening =
     run-lawful st v before
     (subst (λ (o : Opens). unlawful (o .state) ≡ false) opening (opened-lawful v base (ap (λ (o : Opens). o .answer) opening) .0))
+
+-- ---- locks in runs (02, a)
+
+-- a run is its first calls and then the others
+run-append : (st : State) (v : List ℕ) (before after : List Call) → run st v (before ++ after) ≡ run (run st v before .state) (run st v before .volume) after
+unfolding run
+run-append st v [] after = refl
+run-append st v (c ∷ before) after = run-append (step st v c .state) (step st v c .volume) before after
+
+-- no run changes the edition
+pub run-edition : (st : State) (v : List ℕ) (cs : List Call) → run st v cs .state .edition ≡ st .edition
+unfolding run
+run-edition st v [] = refl
+run-edition st v (c ∷ cs) = run-edition (step st v c .state) (step st v c .volume) cs ∙ edition-kept st v c
+
+-- a lock and the status that it keeps, where every call of edition 2 keeps them, in a run
+module _ (lock status : ℕ)
+    (kept : (st : State) (v : List ℕ) (c : Call) → st .edition ≡ 2 → flag (st .attributes) lock ≡ true
+    → (flag (step st v c .state .attributes) lock ≡ true) × (flag (step st v c .state .attributes) status ≡ flag (st .attributes) status)) where
+  run-kept : (st : State) (v : List ℕ) (cs : List Call) → st .edition ≡ 2 → flag (st .attributes) lock ≡ true
+      → (flag (run st v cs .state .attributes) lock ≡ true) × (flag (run st v cs .state .attributes) status ≡ flag (st .attributes) status)
+  unfolding run
+  run-kept st v [] two on = (on, refl)
+  run-kept st v (c ∷ cs) two on =
+      let k = kept st v c two on in
+      let r = run-kept (step st v c .state) (step st v c .volume) cs (edition-kept st v c ∙ two) (k .0) in
+      (r .0, r .1 ∙ k .1)
+
+  locked-run : (st : State) (v : List ℕ) (before after : List Call) → st .edition ≡ 2 → flag (run st v before .state .attributes) lock ≡ true
+      → (flag (run st v (before ++ after) .state .attributes) lock ≡ true)
+      × (flag (run st v (before ++ after) .state .attributes) status ≡ flag (run st v before .state .attributes) status)
+  locked-run st v before after two on =
+      rw (run-append st v before after) (run-kept (run st v before .state) (run st v before .volume) after (run-edition st v before ∙ two) on)
+
+-- from the call on that raised a lock, its status keeps its value to the end
+pub read-locked-run : (st : State) (v : List ℕ) (before after : List Call) → st .edition ≡ 2 → flag (run st v before .state .attributes) readLockStatus ≡ true
+    → (flag (run st v (before ++ after) .state .attributes) readLockStatus ≡ true)
+    × (flag (run st v (before ++ after) .state .attributes) readStatus ≡ flag (run st v before .state .attributes) readStatus)
+read-locked-run = locked-run readLockStatus readStatus read-lock-kept
+
+pub write-locked-run : (st : State) (v : List ℕ) (before after : List Call) → st .edition ≡ 2 → flag (run st v before .state .attributes) writeLockStatus ≡ true
+    → (flag (run st v (before ++ after) .state .attributes) writeLockStatus ≡ true)
+    × (flag (run st v (before ++ after) .state .attributes) writeStatus ≡ flag (run st v before .state .attributes) writeStatus)
+write-locked-run = locked-run writeLockStatus writeStatus write-lock-kept

@@ -1,9 +1,10 @@
--- Demand 3, and what a reader of document 01 may want to know of runs beside it: each theorem with the document's words. The proofs are citations.
+-- Demand 3, and what a reader of documents 01 and 02 may want to know of runs beside it: each theorem with the document's words. The proofs are citations.
 use Prim.Native.Nat.{ℕ}
 use mathlib.Core.Path.{_≡_}
-use mathlib.Core.Bool.{false}
-use mathlib.Core.List.{List}
+use mathlib.Core.Bool.{true, false}
+use mathlib.Core.List.{List, _++_}
 use lib.ListN.{length}
+use Rattle.volume.specs.Attributes.{flag, readStatus, writeStatus, readLockStatus, writeLockStatus}
 use Rattle.volume.specs.Header.{opened, openVolume}
 use Rattle.volume.specs.State.{mapOf, unlawful}
 use Rattle.volume.specs.declared.state.State.{State}
@@ -28,3 +29,20 @@ isolated = Isolation.isolated
 -- from opening on every call of a run meets a lawful state
 pub opened-run-lawful : (base : ℕ) (st : State) (v : List ℕ) (before : List Call) → openVolume v base ≡ opened st → unlawful (run st v before .state) ≡ false
 opened-run-lawful = Isolation.opened-run-lawful
+
+-- "The new lock bits may be raised .. and never lowered", "15 where a status already locked would change" (02, a): from any point of a run of edition 2 at which
+-- the lock of the read status stands, whatever is called afterwards, at the end the lock stands and the status has the value that it had at that point
+pub read-locked-run : (st : State) (v : List ℕ) (before after : List Call) → st .edition ≡ 2 → flag (run st v before .state .attributes) readLockStatus ≡ true
+    → (flag (run st v (before ++ after) .state .attributes) readLockStatus ≡ true)
+    × (flag (run st v (before ++ after) .state .attributes) readStatus ≡ flag (run st v before .state .attributes) readStatus)
+read-locked-run = Isolation.read-locked-run
+
+-- and so of the write status
+pub write-locked-run : (st : State) (v : List ℕ) (before after : List Call) → st .edition ≡ 2 → flag (run st v before .state .attributes) writeLockStatus ≡ true
+    → (flag (run st v (before ++ after) .state .attributes) writeLockStatus ≡ true)
+    × (flag (run st v (before ++ after) .state .attributes) writeStatus ≡ flag (run st v before .state .attributes) writeStatus)
+write-locked-run = Isolation.write-locked-run
+
+-- no run changes the edition
+pub run-edition : (st : State) (v : List ℕ) (calls : List Call) → run st v calls .state .edition ≡ st .edition
+run-edition = Isolation.run-edition

@@ -9,7 +9,7 @@ use lib.Dec.{lit<}
 use lib.ListN.{length, getD, length-append}
 use Rattle.common.specs.Refusals.{Row, firstRefusal}
 use Rattle.numbers.proofs.LittleEndian.{le-bound}
-use Rattle.volume.specs.Header.{attributesAt, entriesOf, guidAt, headerLengthAt, lengthAt, mapStart, openRefusals, openVolume, opened, stateAt, wordsAt}
+use Rattle.volume.specs.Header.{attributesAt, entriesOf, guidAt, headerLengthAt, lengthAt, mapStart, openRefusals, openVolume, opened, revisionAt, stateAt, wordsAt}
 use Rattle.volume.specs.State.{mapOf, stateOf, stateWith}
 use Rattle.volume.proofs.header.Fields.{length-wordsAt, opened-entries}
 use Rattle.volume.proofs.header.Reading.{mapOf-stateOf}
@@ -84,7 +84,7 @@ module _ (s : List ℕ) (bytes : (i : ℕ) → getD s i 0 < 256) where
   opened-short e =
       let n : ℕ = entriesOf (headerLengthAt s) in
       let words = wordsAt (2 * n) s mapStart in
-      let map : mapOf (stateAt s 0) ≡ words = mapOf-stateOf (guidAt s) (lengthAt s) (attributesAt s) 0 n words (length-wordsAt (2 * n) s mapStart) in
+      let map : mapOf (stateAt s 0) ≡ words = mapOf-stateOf (guidAt s) (lengthAt s) (attributesAt s) 0 (revisionAt s) n words (length-wordsAt (2 * n) s mapStart) in
       let few : n ≤ 32 = rw e at (opened-entries s 0) in
       let long = le-bound 8 s 32 bytes in
       let attributes = le-bound 4 s 44 bytes in
@@ -102,5 +102,5 @@ module _ (s : List ℕ) (bytes : (i : ℕ) → getD s i 0 < 256) where
       go : (o : Option ℕ) → firstRefusal (openRefusals s (stateAt s 0)) ≡ o → length (listing s) ≤ maxListing
       go none e = opened-short (rw e)
       go (some n) e =
-          let among : n ≤ 1055 = refusal-among (openRefusals s (stateAt s 0)) n e in
+          let among : n ≤ 1167 = refusal-among (openRefusals s (stateAt s 0)) n e in
           rw (lines-refused s n (rw e)) (refused-short n (omega arith))

@@ -14,13 +14,14 @@ use Rattle.common.specs.Lists.{edit}
 use Rattle.common.specs.Refusals.{firstRefusal, any}
 use Rattle.numbers.specs.LittleEndian.{le}
 use Rattle.block_service.specs.Access.{countMoved, writtenByte, erasedByte, writeChange, changedByte}
-use Rattle.volume.specs.Attributes.{attributesFault, baseFault}
+use Rattle.volume.specs.Attributes.{knownEdition, attributesFault, baseFault}
 use Rattle.volume.specs.BlockMap.{blocks, bytes, hasZero, allZero, sizeFault}
 use Rattle.block_service.specs.Blocks.{inBlock, holds, place, placeFrom, startOf, lengthOf, blockAt}
 use Rattle.block_service.specs.Erase.{endOfList, goodList, names, eraseChange}
 use Rattle.volume.specs.Header.{opened, openVolume, stateAt, wordsAt, wordSum, openRefusals, headerLengthFault, mapFault}
 use Rattle.block_service.specs.Service.{refusals, lentRefusals, moveAnswer, effect, decide, withAttributes, perform, bufferOf, Call, setAttributes, read, eraseBlocks, step}
-use Rattle.block_service.specs.Settings.{changesFixed, raises, clears, lacksCapability, settingRefusals}
+use Rattle.block_service.specs.Settings.{statusBits, changesFixed, raises, clears, breaksLock, changesLocked, lacksCapability, settingRefusals}
+use Rattle.volume.specs.ExtendedHeader.{extOffset, extFault}
 use Rattle.volume.specs.State.{mapOf, stateOf, stateWith, unlawful}
 use Rattle.volume.specs.declared.state.State.{State}
 use Rattle.isolation.specs.Runs.{run, isSuccess, isMoved, namesBlock, erased, Alike, NoEarlyRead, Isolated}
@@ -59,11 +60,11 @@ allowed D st v (c ∷ cs) k (x ∷ before) after b o buffer e d m =
 
 -- everything that the two runs compute with: opening, the calls, and runs
 opening : Unit {0}
-unfolding headerA sampleA openVolume stateAt stateOf stateWith wordsAt wordSum openRefusals headerLengthFault mapFault firstRefusal any le
+unfolding headerA sampleA openVolume stateAt stateOf stateWith wordsAt wordSum openRefusals headerLengthFault mapFault extOffset extFault firstRefusal any le
 opening = tt
 
 judging : Unit {0}
-unfolding attributesFault baseFault blocks bytes hasZero allZero sizeFault mapOf unlawful settingRefusals changesFixed raises clears lacksCapability
+unfolding knownEdition attributesFault baseFault blocks bytes hasZero allZero sizeFault mapOf unlawful settingRefusals statusBits changesFixed raises clears breaksLock changesLocked lacksCapability
 judging = tt
 
 moving : Unit {0}

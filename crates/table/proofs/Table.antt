@@ -9,13 +9,14 @@ use Rattle.common.specs.Lists.{edit}
 use Rattle.common.specs.Refusals.{firstRefusal, any}
 use Rattle.numbers.specs.LittleEndian.{le}
 use Rattle.block_service.specs.Access.{countMoved, writtenByte, erasedByte, writeChange, changedByte}
-use Rattle.volume.specs.Attributes.{attributesFault, baseFault}
+use Rattle.volume.specs.Attributes.{knownEdition, attributesFault, baseFault}
 use Rattle.volume.specs.BlockMap.{blocks, bytes, hasZero, allZero, sizeFault}
 use Rattle.block_service.specs.Blocks.{place, placeFrom, startOf, lengthOf, blockAt}
 use Rattle.block_service.specs.Erase.{endOfList, goodList, names, eraseChange}
 use Rattle.volume.specs.Header.{openVolume, opened, opens, stateAt, wordsAt, wordSum, runningSumsFrom, runningSums, openRefusals, headerLengthFault, mapFault}
 use Rattle.block_service.specs.Service.{refusals, lentRefusals, moveAnswer, effect, decide, withAttributes, perform, bufferOf, Result, Call, setAttributes, read, write, eraseBlocks, step}
-use Rattle.block_service.specs.Settings.{changesFixed, raises, clears, lacksCapability, settingRefusals}
+use Rattle.block_service.specs.Settings.{statusBits, changesFixed, raises, clears, breaksLock, changesLocked, lacksCapability, settingRefusals}
+use Rattle.volume.specs.ExtendedHeader.{extOffset, extFault}
 use Rattle.volume.specs.State.{mapOf, stateOf, stateWith, zeroState, unlawful}
 use Rattle.sections.specs.Types.{infoAmong, typeInfo}
 use Rattle.sections.specs.Header.{headAt, headFaults, sectionAt, packed, contentsAt, wrongContents}
@@ -49,7 +50,7 @@ stream = 0x05 ∷ 0x00 ∷ 0x00 ∷ 0x19 ∷ 0xAA ∷ 0x00 ∷ 0x00 ∷ 0x00 ∷
 
 pub record Table : Type 0 where
   -- A opens: GUID zero, length 2,048, attributes 0x0E3F, base 0, one entry of 4 blocks of 512
-  pub P1 : openVolume sampleA 0 ≡ opened (stateOf (replicate 16 0) 2048 0x0E3F 0 1 (4 ∷ 512 ∷ []))
+  pub P1 : openVolume sampleA 0 ≡ opened (stateOf (replicate 16 0) 2048 0x0E3F 0 1 1 (4 ∷ 512 ∷ []))
   -- A with checksum C1 57 gives 105
   pub P2 : openVolume badSum 0 ≡ opens (refused 105) zeroState
   -- reading block 1 offset 500, 12 bytes: success, 12
@@ -73,7 +74,7 @@ pub record Table : Type 0 where
   pub P10 : Answers (onA (eraseBlocks (0xFFFFFFFFFFFFFFFE ∷ 3 ∷ endOfList ∷ []))) 2 []
   -- settings 0x0E3B: good, the state has them, and reads then give 15
   pub P11 : Answers (onA (setAttributes 0x0E3B)) 0 (0x0E3B ∷ [])
-  pub P11-state : onA (setAttributes 0x0E3B) .state ≡ stateOf (replicate 16 0) 2048 0x0E3B 0 1 (4 ∷ 512 ∷ [])
+  pub P11-state : onA (setAttributes 0x0E3B) .state ≡ stateOf (replicate 16 0) 2048 0x0E3B 0 1 1 (4 ∷ 512 ∷ [])
   pub P11-read : Answers (after (onA (setAttributes 0x0E3B)) (read 0 0 (replicate 1 0))) 15 []
   -- settings 0x0EBF: 2
   pub P12 : Answers (onA (setAttributes 0x0EBF)) 2 []
@@ -83,11 +84,11 @@ pub record Table : Type 0 where
 
 -- everything that the rows compute with: opening, the calls, and sections
 opening : Unit {0}
-unfolding headerA sampleA openVolume stateAt stateOf stateWith zeroState wordsAt wordSum openRefusals headerLengthFault mapFault firstRefusal any le numberOf valuesOf
+unfolding headerA sampleA openVolume stateAt stateOf stateWith zeroState wordsAt wordSum openRefusals headerLengthFault mapFault extOffset extFault firstRefusal any le numberOf valuesOf
 opening = tt
 
 judging : Unit {0}
-unfolding attributesFault baseFault blocks bytes hasZero allZero sizeFault mapOf unlawful settingRefusals changesFixed raises clears lacksCapability
+unfolding knownEdition attributesFault baseFault blocks bytes hasZero allZero sizeFault mapOf unlawful settingRefusals statusBits changesFixed raises clears breaksLock changesLocked lacksCapability
 judging = tt
 
 moving : Unit {0}

@@ -1,1 +1,2 @@
 pub mod SampleA
+pub mod SamplePI

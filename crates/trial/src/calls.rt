@@ -48,18 +48,19 @@ fn first_state(case: &[u8], volume: &[u8]) -> State {
     st
 }
 
-// A state as the script gives it: GUID, length, attributes, base, entries, map words.
+// A state as the script gives it: GUID, length, attributes, base, edition, entries, map words.
 fn given_state(given: &[u8]) -> State {
     let mut guid = [0u8; 16];
     store_bytes(&mut guid, 0, item(given, 0));
     let mut map = [0u32; 64];
-    words_of(item(given, 5), &mut map);
+    words_of(item(given, 6), &mut map);
     State {
         guid,
         length: number(given, 1),
         attributes: u32_at(item(given, 2), 0),
         base: number(given, 3),
-        entries: number(given, 4) as usize,
+        edition: u32_at(item(given, 4), 0),
+        entries: number(given, 5) as usize,
         map,
     }
 }

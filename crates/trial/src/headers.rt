@@ -1,4 +1,4 @@
-// The cases of headers: opening, writing, listing, the word sum.
+// The cases of headers: opening, writing, listing, the word sum, the extended header's entries.
 use crate::print::begin;
 use crate::print::bytes_field;
 use crate::print::change_fields;
@@ -16,13 +16,16 @@ use crate::script::words_of;
 use listing::Listed;
 use listing::list_volume;
 use numbers::store_bytes;
+use volume::ExtEntry;
 use volume::Opened;
 use volume::Opening;
 use volume::State;
 use volume::Written;
+use volume::ext_entry;
 use volume::open_volume;
 use volume::word_sum;
 use volume::write_header;
+use volume::write_pi_header;
 
 // The most bytes of a volume that is opened.
 const VOLUME: usize = 4096;
@@ -54,10 +57,11 @@ fn opened_fields(opened: Opened) {
     state_fields(st);
 }
 
-// A state: length, attributes, entries, base, GUID, map words.
+// A state: length, attributes, edition, entries, base, GUID, map words.
 pub(crate) fn state_fields(st: State) {
     field(st.length);
     field(st.attributes as u64);
+    field(st.edition as u64);
     field(st.entries as u64);
     field(st.base);
     let guid = st.guid;
@@ -67,8 +71,16 @@ pub(crate) fn state_fields(st: State) {
 }
 
 // Writing a header: the room's length, the GUID, the volume's length, the attributes, the map's
-// words, the pattern and the bytes that the room holds before.
+// words, the pattern and the bytes that the room holds before; of edition 2, the offset too.
 pub(crate) fn write_case(case: &[u8]) {
+    write_call(case, b"write header", false);
+}
+
+pub(crate) fn write_pi_case(case: &[u8]) {
+    write_call(case, b"write pi header", true);
+}
+
+fn write_call(case: &[u8], call: &[u8], pi: bool) {
     let mut guid = [0u8; 16];
     store_bytes(&mut guid, 0, item(case, 3));
     let mut words = [0u32; 80];
@@ -77,23 +89,36 @@ pub(crate) fn write_case(case: &[u8]) {
     prepare(item(case, 8), item(case, 7), &mut before);
     let mut room = [0u8; 512];
     prepare(item(case, 8), item(case, 7), &mut room);
-    begin(case, b"write header");
-    write_in(case, guid, &words, &mut room);
+    begin(case, call);
+    written_fields(write_in(case, pi, guid, &words, &mut room));
     change_fields(&before, &room);
     end();
 }
 
-fn write_in(case: &[u8], guid: [u8; 16], words: &[u32], room: &mut [u8]) {
+fn write_in(case: &[u8], pi: bool, guid: [u8; 16], words: &[u32], room: &mut [u8]) -> Written {
     let k = least(item(case, 6).len() / 4, words.len());
     let n = least(number(case, 2) as usize, room.len());
     let attributes = numbers::u32_at(item(case, 5), 0);
-    let answer = write_header(
+    if pi {
+        return write_pi_header(
+            numbers::u16_at(item(case, 9), 0),
+            guid,
+            number(case, 4),
+            attributes,
+            &words[..k],
+            &mut room[..n],
+        );
+    }
+    write_header(
         guid,
         number(case, 4),
         attributes,
         &words[..k],
         &mut room[..n],
-    );
+    )
+}
+
+fn written_fields(answer: Written) {
     match answer {
         Written::Success(len) => {
             field(0);
@@ -133,6 +158,36 @@ fn list_in(case: &[u8], volume: &[u8], room: &mut [u8]) -> usize {
             field(no as u64);
             0
         }
+    }
+}
+
+// An entry of an extended header: the lent length, the entry's number, the header's bytes, the pattern behind them.
+pub(crate) fn entry_case(case: &[u8]) {
+    let mut volume = [0u8; VOLUME];
+    entry_array(case, &mut volume);
+}
+
+fn entry_array(case: &[u8], volume: &mut [u8; VOLUME]) {
+    entry_slice(case, volume);
+}
+
+fn entry_slice(case: &[u8], volume: &mut [u8]) {
+    prepare(item(case, 4), item(case, 5), volume);
+    begin(case, b"ext entry");
+    field(number(case, 3));
+    entry_fields(ext_entry(prefix(volume, number(case, 2) as usize), number(case, 3)));
+    end();
+}
+
+fn entry_fields(answer: ExtEntry) {
+    match answer {
+        ExtEntry::Success { first, size, kind } => {
+            field(0);
+            field(first as u64);
+            field(size as u64);
+            field(kind as u64);
+        }
+        ExtEntry::Refused(no) => field(no as u64),
     }
 }
 

@@ -8,10 +8,12 @@ mod script;
 mod streams;
 
 use crate::calls::run_case;
+use crate::headers::entry_case;
 use crate::headers::list_case;
 use crate::headers::open_case;
 use crate::headers::sum_case;
 use crate::headers::write_case;
+use crate::headers::write_pi_case;
 use crate::script::item;
 use crate::script::number;
 use crate::script::prefix;
@@ -20,7 +22,7 @@ use crate::streams::search_case;
 
 // The most bytes of a script. tests/limits builds a program with more, and with a longer VOLUME and ROOM in headers.rt and
 // streams.rt.
-const SCRIPT: usize = 262144;
+const SCRIPT: usize = 524288;
 
 fn main() {
     let mut input = [0u8; SCRIPT];
@@ -57,6 +59,8 @@ fn one_case(case: &[u8]) {
         3 => run_case(case),
         4 => search_case(case),
         5 => append_case(case),
-        _ => sum_case(case),
+        6 => sum_case(case),
+        7 => write_pi_case(case),
+        _ => entry_case(case),
     }
 }

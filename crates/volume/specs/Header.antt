@@ -1,5 +1,6 @@
--- The volume header (document 01, Header; 000's EFI_FIRMWARE_VOLUME_HEADER): what opening reads from it.
--- "Lent" bytes are the caller's slice. Reserved bytes (52..54) and the zero vector (0..15) are read by nothing but the word sum.
+-- The volume header (document 01, Header; 000's EFI_FIRMWARE_VOLUME_HEADER), of both editions (document 02, a): what opening reads from it.
+-- "Lent" bytes are the caller's slice. Reserved bytes (54, and in edition 1 also 52 and 53) and the zero vector (0..15) are read by nothing but the
+-- word sum.
 use Prim.Native.Nat.{ℕ, zero, suc, _+_, _-_, _*_, _/_, _%_}
 use mathlib.Core.Bool.{Bool, not, _||_}
 use mathlib.Core.List.{List, [], _∷_}
@@ -9,8 +10,9 @@ use lib.ListN.{length, getD, take, drop}
 use Rattle.common.specs.Answers.{Answer, refused, success}
 use Rattle.common.specs.Refusals.{Row, row, firstRefusal, unlessRefused, any}
 use Rattle.numbers.specs.LittleEndian.{le}
-use Rattle.volume.specs.Attributes.{attributesFault, baseFault}
+use Rattle.volume.specs.Attributes.{knownEdition, attributesFault, baseFault}
 use Rattle.volume.specs.BlockMap.{emptyHeader, entryLength, headerLength, maxEntries, hasZero, sizeFault}
+use Rattle.volume.specs.ExtendedHeader.{extOffset, extFault}
 use Rattle.volume.specs.State.{stateOf, zeroState, mapOf}
 use Rattle.volume.specs.declared.state.State.{State}
 use Rattle.volume.specs.declared.header.Opening.{Opening}
@@ -37,12 +39,9 @@ signature = 0x4856465F
 abbrev pub attributesAt : List ℕ → ℕ
 attributesAt s = le 4 s 44
 
--- byte 55: revision, which is 1
+-- byte 55: revision, which is the header's edition
 abbrev pub revisionAt : List ℕ → ℕ
 revisionAt s = getD s 55 0
-
-abbrev pub revision : ℕ
-revision = 1
 
 -- the first byte of the block map
 abbrev pub mapStart : ℕ
@@ -91,11 +90,11 @@ runningSums s = runningSumsFrom 0 s
 
 -- ---- opening
 
--- GUID, length, attributes and map as the header has them, and the base given
+-- GUID, length, attributes, edition and map as the header has them, and the base given
 unfoldable pub stateAt : List ℕ → ℕ → State
 stateAt s base =
     let n = entriesOf (headerLengthAt s) in
-    stateOf (guidAt s) (lengthAt s) (attributesAt s) base n (wordsAt (2 * n) s mapStart)
+    stateOf (guidAt s) (lengthAt s) (attributesAt s) base (revisionAt s) n (wordsAt (2 * n) s mapStart)
 
 -- 104: header length not a multiple of 8, below 72, above 320 or past the lent bytes
 unfoldable pub headerLengthFault : ℕ → ℕ → Bool
@@ -105,19 +104,20 @@ headerLengthFault h lent = any (not (eqb (h % entryLength) 0) ∷ ltb h minHeade
 unfoldable pub mapFault : List ℕ → State → Bool
 mapFault s st = hasZero (mapOf st) || not (eqb (le 8 s (headerLengthAt s - entryLength)) 0)
 
--- the refusals of opening, in order; `st` is what the state would be
+-- the refusals of opening, in order; `st` is what the state would be. 108 and 112 ask its edition
 unfoldable pub openRefusals : List ℕ → State → List Row
 openRefusals s st =
     row (ltb (length s) minHeader) 101
     ∷ row (not (eqb (signatureAt s) signature)) 102
-    ∷ row (not (eqb (revisionAt s) revision)) 103
+    ∷ row (not (knownEdition (revisionAt s))) 103
     ∷ row (headerLengthFault (headerLengthAt s) (length s)) 104
     ∷ row (not (eqb (wordSum (take (headerLengthAt s) s) % wordModulus) 0)) 105
     ∷ row (mapFault s st) 106
     ∷ row (sizeFault (st .entries) (mapOf st) (st .length)) 107
-    ∷ row (attributesFault (st .attributes)) 108
+    ∷ row (attributesFault (st .edition) (st .attributes)) 108
     ∷ row (ltb (length s) (st .length)) 109
     ∷ row (baseFault (st .attributes) (st .base)) 110
+    ∷ row (extFault s (headerLengthAt s) (st .length) (extOffset (st .edition) s)) 112
     ∷ []
 
 -- what opening answers, and the state beside the answer

@@ -1,5 +1,6 @@
 -- Writing a volume header (document 01: "writing a header takes GUID, length, attributes and the map words without the closing pair. It
--- stores exactly the header, its checksum worked out, at the start of the room and answers its length").
+-- stores exactly the header, its checksum worked out, at the start of the room and answers its length"). "For revision 2 a second writer takes the
+-- offset too" (document 02, a): the edition and the offset of an extended header come first, 1 and 0 for the first writer.
 use Prim.Native.Nat.{ℕ, _-_, _/_, _%_}
 use mathlib.Core.Bool.{Bool, not, _||_}
 use mathlib.Core.List.{List, [], _∷_, _++_}
@@ -10,7 +11,7 @@ use Rattle.common.specs.Refusals.{Row, row, firstRefusal, unlessRefused}
 use Rattle.numbers.specs.LittleEndian.{leBytes}
 use Rattle.volume.specs.Attributes.{attributesFault}
 use Rattle.volume.specs.BlockMap.{headerLength, hasZero, sizeFault}
-use Rattle.volume.specs.Header.{signature, revision, wordModulus, wordSum}
+use Rattle.volume.specs.Header.{signature, wordModulus, wordSum}
 use Rattle.volume.specs.declared.header_writer.Written.{Written}
 use Rattle.volume.specs.declared.header_writer.Written.the-variants as Written
 
@@ -29,33 +30,35 @@ unfoldable pub headerFront : List ℕ → ℕ → ℕ → ℕ → List ℕ
 headerFront guid len attributes h =
     replicate 16 0 ++ (guid ++ (leBytes 8 len ++ (leBytes 4 signature ++ (leBytes 4 attributes ++ leBytes 2 h))))
 
--- bytes 52..55: reserved, as zeros, and the revision
-abbrev pub reservedAndRevision : List ℕ
-reservedAndRevision = 0 ∷ 0 ∷ 0 ∷ revision ∷ []
+-- bytes 52..55: the offset of the extended header, which is reserved and 0 in edition 1, a reserved zero, and the revision
+unfoldable pub headerBack : ℕ → ℕ → List ℕ
+headerBack edition offset = leBytes 2 offset ++ (leBytes 1 0 ++ leBytes 1 edition)
 
 -- a header with this checksum; the map is ended by a pair of zeros
-unfoldable pub headerWith : ℕ → List ℕ → ℕ → ℕ → List ℕ → List ℕ
-headerWith check guid len attributes words =
-    headerFront guid len attributes (headerLength (pairs words)) ++ (leBytes 2 check ++ (reservedAndRevision ++ (wordsBytes words ++ replicate 8 0)))
+unfoldable pub headerWith : ℕ → ℕ → ℕ → List ℕ → ℕ → ℕ → List ℕ → List ℕ
+headerWith check edition offset guid len attributes words =
+    headerFront guid len attributes (headerLength (pairs words))
+    ++ (leBytes 2 check ++ (headerBack edition offset ++ (wordsBytes words ++ replicate 8 0)))
 
 -- the checksum that brings a sum of 16-bit words to 0
 abbrev pub checksum : ℕ → ℕ
 checksum sum = (wordModulus - sum % wordModulus) % wordModulus
 
 -- the header, its checksum worked out over the header that has 0 in its place
-unfoldable pub headerBytes : List ℕ → ℕ → ℕ → List ℕ → List ℕ
-headerBytes guid len attributes words = headerWith (checksum (wordSum (headerWith 0 guid len attributes words))) guid len attributes words
+unfoldable pub headerBytes : ℕ → ℕ → List ℕ → ℕ → ℕ → List ℕ → List ℕ
+headerBytes edition offset guid len attributes words =
+    headerWith (checksum (wordSum (headerWith 0 edition offset guid len attributes words))) edition offset guid len attributes words
 
 -- 106 at writing: a zero word or an odd number of map words
 unfoldable pub wordsFault : List ℕ → Bool
 wordsFault words = hasZero words || not (eqb (length words % 2) 0)
 
--- the refusals of writing, in order; `room` is the length of the lent room
-unfoldable pub writeRefusals : ℕ → ℕ → List ℕ → ℕ → List Row
-writeRefusals len attributes words room =
+-- the refusals of writing, in order; `room` is the length of the lent room. No offset is refused
+unfoldable pub writeRefusals : ℕ → ℕ → ℕ → List ℕ → ℕ → List Row
+writeRefusals edition len attributes words room =
     row (wordsFault words) 106
     ∷ row (sizeFault (pairs words) words len) 107
-    ∷ row (attributesFault attributes) 108
+    ∷ row (attributesFault edition attributes) 108
     ∷ row (ltb room (headerLength (pairs words))) 5
     ∷ []
 
@@ -73,8 +76,8 @@ writtenAnswer (Written.Success k) = success (k ∷ [])
 writtenAnswer (Written.Refused n) = refused n
 
 -- writing a header at the start of a room: it answers its length and stores exactly the header; a refusal leaves the room as it was
-unfoldable pub writeHeader : List ℕ → ℕ → ℕ → List ℕ → List ℕ → HeaderWritten
-writeHeader guid len attributes words room =
-    let header = headerBytes guid len attributes words in
-    unlessRefused (λ n. wrote (refused n) room) (firstRefusal (writeRefusals len attributes words (length room)))
+unfoldable pub writeHeader : ℕ → ℕ → List ℕ → ℕ → ℕ → List ℕ → List ℕ → HeaderWritten
+writeHeader edition offset guid len attributes words room =
+    let header = headerBytes edition offset guid len attributes words in
+    unlessRefused (λ n. wrote (refused n) room) (firstRefusal (writeRefusals edition len attributes words (length room)))
     (wrote (success (length header ∷ [])) (header ++ drop (length header) room))

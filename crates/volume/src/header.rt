@@ -10,10 +10,12 @@ ghost use Rattle.volume.specs.BlockMap.{entryLength};
 ghost use Rattle.volume.specs.State.{stateWith, zeroState};
 use crate::attributes::attributes_fault;
 use crate::attributes::base_fault;
+use crate::attributes::edition_fault;
 use crate::block_map::EMPTY_HEADER;
 use crate::block_map::ENTRY_LENGTH;
 use crate::block_map::has_zero;
 use crate::block_map::map_fault;
+use crate::extended_header::ext_fault;
 use crate::state::State;
 use crate::state::state_with;
 use std::num::wrapping_add_u16;
@@ -34,9 +36,11 @@ pub(crate) const HEADER_LENGTH: usize = 48;
 
 pub(crate) const CHECKSUM: usize = 50;
 
-pub(crate) const RESERVED: usize = 52;
+pub(crate) const EXT_HEADER_OFFSET: usize = 52;
 
-const REVISION: usize = 55;
+pub(crate) const RESERVED: usize = 54;
+
+pub(crate) const REVISION: usize = 55;
 
 pub(crate) const BLOCK_MAP: usize = 56;
 
@@ -45,7 +49,7 @@ const SHORTEST_HEADER: usize = 72;
 
 const LONGEST_HEADER: usize = 320;
 
-// What opening answers: success, or the refusal's number in document 01 (101 to 110).
+// What opening answers: success, or the refusal's number in documents 01 and 02 (101 to 110, 112).
 pub enum Opening {
     Success,
     Refused(u16),
@@ -57,8 +61,8 @@ pub struct Opened {
     pub state: State,
 }
 
-// Opens a volume: answers the state that its header and the base address give, or the first of 101 to
-// 110 that applies. Only the header is read.
+// Opens a volume of either edition: answers the state that its header and the base address give, or the first of 101 to
+// 110 and 112 that applies. Only the header is read, and in edition 2 the extended header.
 pub fn open_volume(volume: &[u8], base: u64) -> Opened
     ensures { λ r. ⌜ opens (openingAnswer (r .answer)) (r .state) ≡ openVolume (now (volume .entry)) base ⌝ }
 {
@@ -69,16 +73,17 @@ pub fn open_volume(volume: &[u8], base: u64) -> Opened
     let entries = (numbers::u16_at(volume, HEADER_LENGTH) as usize - EMPTY_HEADER) / ENTRY_LENGTH;
     let length = numbers::u64_at(volume, LENGTH);
     let attributes = numbers::u32_at(volume, ATTRIBUTES);
+    let edition = numbers::byte_at(volume, REVISION) as u32;
     let mut map = [0u32; 64];
     read_map(volume, entries, &mut map);
-    let late = fields_refusal(volume, length, attributes, base, entries, &map);
+    let late = fields_refusal(volume, length, attributes, base, edition, entries, &map);
     if let Opening::Refused(n) = late {
         return refuse(n);
     }
     let guid = guid_at(volume);
     Opened {
         answer: Opening::Success,
-        state: state_with(guid, length, attributes, base, entries, map),
+        state: state_with(guid, length, attributes, base, edition, entries, map),
     }
 }
 
@@ -88,7 +93,7 @@ fn refuse(n: u16) -> Opened
 {
     Opened {
         answer: Opening::Refused(n),
-        state: state_with([0; 16], 0, 0, 0, 0, [0; 64]),
+        state: state_with([0; 16], 0, 0, 0, 0, 0, [0; 64]),
     }
 }
 
@@ -102,7 +107,7 @@ fn bytes_refusal(s: &[u8]) -> Opening
     if numbers::u32_at(s, SIGNATURE_PLACE) != SIGNATURE {
         return Opening::Refused(102);
     }
-    if numbers::byte_at(s, REVISION) != 1 {
+    if edition_fault(numbers::byte_at(s, REVISION) as u32) {
         return Opening::Refused(103);
     }
     let header = numbers::u16_at(s, HEADER_LENGTH) as usize;
@@ -115,18 +120,19 @@ fn bytes_refusal(s: &[u8]) -> Opening
     Opening::Success
 }
 
-// The table's other rows, 106 to 110, with the parts of what the state would be. The GUID has no part in them. The map is lent, so that
+// The table's other rows, 106 to 110 and 112, with the parts of what the state would be. The GUID has no part in them. The map is lent, so that
 // no state is copied to ask this.
 fn fields_refusal(
     s: &[u8],
     len: u64,
     attributes: u32,
     base: u64,
+    edition: u32,
     entries: usize,
     map: &[u32],
 ) -> Opening
     requires { ⌜ (2 * entries ≤ length (now map)) × (entryLength ≤ headerLengthAt (now s)) ⌝ }
-    ensures { λ r. ⌜ ((guid : List ℕ) → refusalOf r ≡ firstRefusal (drop 5 (openRefusals (now (s .entry)) (stateWith guid len attributes base entries (now (map .entry)))))) ⌝ }
+    ensures { λ r. ⌜ ((guid : List ℕ) → refusalOf r ≡ firstRefusal (drop 5 (openRefusals (now (s .entry)) (stateWith guid len attributes base edition entries (now (map .entry)))))) ⌝ }
 {
     let end = 2 * entries;
     let closing = numbers::u16_at(s, HEADER_LENGTH) as usize - ENTRY_LENGTH;
@@ -139,7 +145,7 @@ fn fields_refusal(
     if map_fault(entries, &map[..end], len) {
         return Opening::Refused(107);
     }
-    if attributes_fault(attributes) {
+    if attributes_fault(edition, attributes) {
         return Opening::Refused(108);
     }
     if (s.len() as u64) < len {
@@ -147,6 +153,13 @@ fn fields_refusal(
     }
     if base_fault(attributes, base) {
         return Opening::Refused(110);
+    }
+    if edition != 2 {
+        return Opening::Success;
+    }
+    let offset = numbers::u16_at(s, EXT_HEADER_OFFSET) as usize;
+    if ext_fault(s, closing + ENTRY_LENGTH, len as usize, offset) {
+        return Opening::Refused(112);
     }
     Opening::Success
 }

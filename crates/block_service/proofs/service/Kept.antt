@@ -1,16 +1,19 @@
--- What holds of all the calls: which things none of them changes, and that a lawful state stays lawful.
-use Prim.Native.Nat.{ℕ, _/_, _≤_, _<_}
-use mathlib.Core.Bool.{false}
-use mathlib.Core.List.{List}
+-- What holds of all the calls: which things none of them changes, that a lawful state stays lawful, and what locks keep.
+use Prim.Native.Nat.{ℕ, _/_, _%_, _≤_, _<_}
+use mathlib.Core.Bool.{Bool, true, false, not, cond, _&&_, _||_, true≢false}
+use mathlib.Core.List.{List, [], _∷_}
 use mathlib.Core.Option.{Option, none, some}
-use mathlib.Core.Path.{_≡_, refl, sym, ap, _∙_}
+use mathlib.Core.Path.{_≡_, refl, sym, ap, subst, _∙_}
 use native.Mathlib.Omega.{arith}
-use borrow.Author.Tests.{leb-false}
+use borrow.Author.Tests.{leb-false, eqb-true, not-false}
+use lib.Bits.{bitOr}
+use lib.Dec.{eqb}
 use lib.ListN.{length, getD}
 use Rattle.common.specs.Refusals.{row, firstRefusal, any}
+use Rattle.common.proofs.Bits.{bit, masked-bit, above-mask, apart-mask}
 use Rattle.common.proofs.Edit.{length-edit}
-use Rattle.common.proofs.Refusals.{row-passed}
-use Rattle.volume.specs.Attributes.{attributesFault, baseFault}
+use Rattle.common.proofs.Refusals.{row-passed, any-passed}
+use Rattle.volume.specs.Attributes.{flag, readStatus, writeStatus, lockStatus, readLockStatus, writeLockStatus, reservedBits, attributesFault, baseFault}
 use Rattle.volume.specs.BlockMap.{blocks, bytes}
 use Rattle.volume.specs.State.{mapOf, unlawful, stateWith}
 use Rattle.volume.specs.declared.state.State.{State}
@@ -19,34 +22,44 @@ use Rattle.block_service.specs.Access.{countMoved}
 use Rattle.block_service.specs.Blocks.{place}
 use Rattle.block_service.specs.Service.{Call, getAttributes, setAttributes, getPhysicalAddress, getBlockSize, read, write, eraseBlocks, refusals, effect, Result}
 use Rattle.block_service.specs.Service.{perform, bufferOf, step, decide, Effect, reply, setTo, copyOut, change, withAttributes}
-use Rattle.block_service.specs.Settings.{changesFixed, settingRefusals}
+use Rattle.block_service.specs.Settings.{statusBits, changesFixed, raises, clears, breaksLock, changesLocked, settingRefusals}
 use Rattle.block_service.specs.declared.blocks.Place.{Place}
 use Rattle.block_service.specs.declared.blocks.Place.the-variants.{At, Missing}
 use Rattle.block_service.proofs.blocks.Places.{found-within, place-lost, past-every-block}
 use Rattle.block_service.proofs.service.Erasing.{erase-other}
 use Rattle.block_service.proofs.service.Moving.{write-other}
 use Rattle.block_service.proofs.service.Steps.{refused-step, allowed-step, allowed-answers, passed-write, passed-erase}
-use Rattle.block_service.proofs.settings.Rules.{fixed-same}
+use Rattle.block_service.proofs.settings.Rules.{same-fixed, fixed-bits}
 
 -- ---- what no call changes
 
--- the map is the same after every call
-pub map-kept : (st : State) (v : List ℕ) (c : Call) → mapOf (step st v c .state) ≡ mapOf st
-unfolding perform effect withAttributes stateWith mapOf
-map-kept st v c = go (firstRefusal (refusals st (length v) c)) refl
+-- after a call the state is as it was, or has the settings that were set: what holds of both holds of it
+pub state-cases : (P : State → Type 0) (st : State) (v : List ℕ) (c : Call) → P st
+    → ((new : ℕ) → firstRefusal (refusals st (length v) (setAttributes new)) ≡ none → P (withAttributes st new)) → P (step st v c .state)
+unfolding perform effect
+state-cases P st v c same set = go (firstRefusal (refusals st (length v) c)) refl
   where
-    effect-map : (c : Call) → mapOf (perform st v (bufferOf c) (effect st c) .state) ≡ mapOf st
-    effect-map getAttributes = refl
-    effect-map (setAttributes new) = refl
-    effect-map getPhysicalAddress = refl
-    effect-map (getBlockSize b) = refl
-    effect-map (read b o buffer) = refl
-    effect-map (write b o new) = refl
-    effect-map (eraseBlocks list) = refl
+    allowed : (c : Call) → firstRefusal (refusals st (length v) c) ≡ none → P (perform st v (bufferOf c) (effect st c) .state)
+    allowed getAttributes e = same
+    allowed (setAttributes new) e = set new e
+    allowed getPhysicalAddress e = same
+    allowed (getBlockSize b) e = same
+    allowed (read b o buffer) e = same
+    allowed (write b o new) e = same
+    allowed (eraseBlocks list) e = same
 
-    go : (o : Option ℕ) → firstRefusal (refusals st (length v) c) ≡ o → mapOf (step st v c .state) ≡ mapOf st
-    go (some n) e = ap (λ (r : Result). mapOf (r .state)) (sym (refused-step st v c n e))
-    go none e = ap (λ (r : Result). mapOf (r .state)) (sym (allowed-step st v c e)) ∙ effect-map c
+    go : (o : Option ℕ) → firstRefusal (refusals st (length v) c) ≡ o → P (step st v c .state)
+    go (some n) e = subst (λ (r : Result). P (r .state)) (refused-step st v c n e) same
+    go none e = subst (λ (r : Result). P (r .state)) (allowed-step st v c e) (allowed c e)
+
+-- the map and the edition are the same after every call
+pub map-kept : (st : State) (v : List ℕ) (c : Call) → mapOf (step st v c .state) ≡ mapOf st
+unfolding withAttributes stateWith mapOf
+map-kept st v c = state-cases (λ s. mapOf s ≡ mapOf st) st v c refl (λ new e. refl)
+
+pub edition-kept : (st : State) (v : List ℕ) (c : Call) → step st v c .state .edition ≡ st .edition
+unfolding withAttributes stateWith
+edition-kept st v c = state-cases (λ s. s .edition ≡ st .edition) st v c refl (λ new e. refl)
 
 -- and so is the volume's length
 pub length-kept : (st : State) (v : List ℕ) (c : Call) → length (step st v c .volume) ≡ length v
@@ -108,47 +121,109 @@ past-length-kept st v c i h = go (firstRefusal (refusals st (length v) c)) refl
 -- ---- a lawful state stays lawful
 
 -- settings that agree in every fixed bit break the same rules
-same-attributes : (old new : ℕ) → old / 0x100 ≡ new / 0x100 → attributesFault new ≡ attributesFault old
-unfolding attributesFault any
-same-attributes old new e =
-    let a : new / 0x1000 ≡ old / 0x1000 = omega arith in
-    let b : new / 0x2000 ≡ old / 0x2000 = omega arith in
-    let c : new / 0x4000 ≡ old / 0x4000 = omega arith in
-    let d : new / 0x8000 ≡ old / 0x8000 = omega arith in
-    let f : new / 0x10000 ≡ old / 0x10000 = omega arith in
-    rw (← e, a, b, c, d, f)
+same-attributes : (edition old new : ℕ) → changesFixed edition old new ≡ false → attributesFault edition new ≡ attributesFault edition old
+unfolding attributesFault statusBits any
+same-attributes edition old new e = go (eqb edition 2) refl
+  where
+    go : (t : Bool) → eqb edition 2 ≡ t → attributesFault edition new ≡ attributesFault edition old
+    go true q =
+        let m : bitOr old 0xA0A4 ≡ bitOr new 0xA0A4 = rw q at (same-fixed edition old new e) in
+        rw (q, apart-mask old new 0xA0A4 m reservedBits refl)
+    go false q =
+        let m : bitOr old 0xA4 ≡ bitOr new 0xA4 = rw q at (same-fixed edition old new e) in
+        let b8 : old / 0x100 % 2 ≡ new / 0x100 % 2 = masked-bit old new 0xA4 m 8 refl in
+        let b12 : old / 0x1000 % 2 ≡ new / 0x1000 % 2 = masked-bit old new 0xA4 m 12 refl in
+        let b13 : old / 0x2000 % 2 ≡ new / 0x2000 % 2 = masked-bit old new 0xA4 m 13 refl in
+        let b14 : old / 0x4000 % 2 ≡ new / 0x4000 % 2 = masked-bit old new 0xA4 m 14 refl in
+        let b15 : old / 0x8000 % 2 ≡ new / 0x8000 % 2 = masked-bit old new 0xA4 m 15 refl in
+        let above : old / 0x10000 ≡ new / 0x10000 = above-mask old new 0xA4 m 16 refl in
+        rw (q, b8, b12, b13, b14, b15, above)
 
-same-base : (old new base : ℕ) → old / 0x100 ≡ new / 0x100 → baseFault new base ≡ baseFault old base
-unfolding baseFault
-same-base old new base e = let a : new / 0x400 ≡ old / 0x400 = omega arith in rw a
+same-base : (edition old new base : ℕ) → changesFixed edition old new ≡ false → baseFault new base ≡ baseFault old base
+unfolding baseFault statusBits
+same-base edition old new base e = rw (fixed-bits edition old new e 10 (go (eqb edition 2)))
+  where
+    go : (t : Bool) → bit (cond t 0xA0A4 0xA4) 10 ≡ 0
+    go true = refl
+    go false = refl
 
--- settings that were set keep the fixed bits above the lock
-kept-high : (old new : ℕ) → changesFixed old new ≡ false → old / 0x100 ≡ new / 0x100
-kept-high old new e = fixed-same old new e .high
-
-set-lawful : (st : State) (new : ℕ) → attributesFault new ≡ attributesFault (st .attributes) → baseFault new (st .base) ≡ baseFault (st .attributes) (st .base)
-    → unlawful st ≡ false → unlawful (withAttributes st new) ≡ false
+set-lawful : (st : State) (new : ℕ) → attributesFault (st .edition) new ≡ attributesFault (st .edition) (st .attributes)
+    → baseFault new (st .base) ≡ baseFault (st .attributes) (st .base) → unlawful st ≡ false → unlawful (withAttributes st new) ≡ false
 unfolding unlawful withAttributes stateWith mapOf
 set-lawful st new a b ok = rw (a, b) ok
 
-allowed-lawful : (st : State) (v : List ℕ) (c : Call) → firstRefusal (refusals st (length v) c) ≡ none → unlawful st ≡ false
-    → unlawful (perform st v (bufferOf c) (effect st c) .state) ≡ false
-unfolding perform effect refusals settingRefusals withAttributes
-allowed-lawful st v getAttributes e ok = ok
-allowed-lawful st v (setAttributes new) e ok =
-    let p = row-passed (row (changesFixed (st .attributes) new) 2) _ (row-passed (row (unlawful st) 111) _ e .1) in
-    let k = kept-high (st .attributes) new (p .0) in
-    set-lawful st new (same-attributes (st .attributes) new k) (same-base (st .attributes) new (st .base) k) ok
-allowed-lawful st v getPhysicalAddress e ok = ok
-allowed-lawful st v (getBlockSize b) e ok = ok
-allowed-lawful st v (read b o buffer) e ok = ok
-allowed-lawful st v (write b o new) e ok = ok
-allowed-lawful st v (eraseBlocks list) e ok = ok
+-- settings that were set passed the rules
+record Set (st : State) (new : ℕ) : Type 0 where
+  pub fixed : changesFixed (st .edition) (st .attributes) new ≡ false
+  pub unlocked : changesLocked (st .edition) (st .attributes) new ≡ false
+
+set-passed : (st : State) (n new : ℕ) → firstRefusal (refusals st n (setAttributes new)) ≡ none → Set st new
+unfolding refusals settingRefusals
+set-passed st n new e =
+    let p = row-passed (row (changesFixed (st .edition) (st .attributes) new) 2) _ (row-passed (row (unlawful st) 111) _ e .1) in
+    let q = row-passed (row (changesLocked (st .edition) (st .attributes) new) 15) _ (p .1) in
+    record { fixed = p .0; unlocked = q .0 }
 
 -- a lawful state stays lawful
 pub lawful-kept : (st : State) (v : List ℕ) (c : Call) → unlawful st ≡ false → unlawful (step st v c .state) ≡ false
-lawful-kept st v c ok = go (firstRefusal (refusals st (length v) c)) refl
+lawful-kept st v c ok =
+    state-cases (λ s. unlawful s ≡ false) st v c ok
+    (λ new e.
+    let p = set-passed st (length v) new e .fixed in
+    set-lawful st new (same-attributes (st .edition) (st .attributes) new p) (same-base (st .edition) (st .attributes) new (st .base) p) ok)
+
+-- ---- locks
+
+-- a lock that is not broken stays, and its status keeps its value
+unbroken : (old new lock status : ℕ) → breaksLock old new lock status ≡ false → flag old lock ≡ true → (flag new lock ≡ true) × (flag new status ≡ flag old status)
+unfolding breaksLock raises clears
+unbroken old new lock status = go (flag old lock) (flag new lock) (flag old status) (flag new status)
   where
-    go : (o : Option ℕ) → firstRefusal (refusals st (length v) c) ≡ o → unlawful (step st v c .state) ≡ false
-    go (some n) e = ap (λ (r : Result). unlawful (r .state)) (sym (refused-step st v c n e)) ∙ ok
-    go none e = ap (λ (r : Result). unlawful (r .state)) (sym (allowed-step st v c e)) ∙ allowed-lawful st v c e ok
+    go : (l k s t : Bool) → (l && (not k || (not s && t || s && not t))) ≡ false → l ≡ true → (k ≡ true) × (t ≡ s)
+    go true true true true e q = (refl, refl)
+    go true true true false e q = absurd (true≢false e)
+    go true true false true e q = absurd (true≢false e)
+    go true true false false e q = (refl, refl)
+    go true false s t e q = absurd (true≢false e)
+    go false k s t e q = absurd (true≢false (sym q))
+
+-- in edition 2 neither lock is broken where the second rule passed
+locks-passed : (edition old new : ℕ) → edition ≡ 2 → changesLocked edition old new ≡ false
+    → (breaksLock old new readLockStatus readStatus ≡ false) × (breaksLock old new writeLockStatus writeStatus ≡ false)
+unfolding changesLocked
+locks-passed edition old new two e =
+    let p = any-passed (flag old lockStatus && not (eqb old new)) (breaksLock old new readLockStatus readStatus ∷ breaksLock old new writeLockStatus writeStatus ∷ []) (rw two at e) in
+    let q = any-passed (breaksLock old new readLockStatus readStatus) _ (p .1) in
+    (q .0, any-passed (breaksLock old new writeLockStatus writeStatus) _ (q .1) .0)
+
+-- so in edition 2 no call lowers a lock, nor changes a status that is locked
+module _ (st : State) (v : List ℕ) (c : Call) (two : st .edition ≡ 2) where
+  -- the lock and the status as a later state has them
+  abbrev Kept : ℕ → ℕ → State → Type 0
+  Kept lock status s = (flag (s .attributes) lock ≡ true) × (flag (s .attributes) status ≡ flag (st .attributes) status)
+
+  pub read-lock-kept : flag (st .attributes) readLockStatus ≡ true
+      → (flag (step st v c .state .attributes) readLockStatus ≡ true) × (flag (step st v c .state .attributes) readStatus ≡ flag (st .attributes) readStatus)
+  unfolding withAttributes stateWith
+  read-lock-kept on =
+      state-cases (Kept readLockStatus readStatus) st v c (on, refl)
+      (λ new e.
+      unbroken (st .attributes) new readLockStatus readStatus (locks-passed (st .edition) (st .attributes) new two (set-passed st (length v) new e .unlocked) .0) on)
+
+  pub write-lock-kept : flag (st .attributes) writeLockStatus ≡ true
+      → (flag (step st v c .state .attributes) writeLockStatus ≡ true) × (flag (step st v c .state .attributes) writeStatus ≡ flag (st .attributes) writeStatus)
+  unfolding withAttributes stateWith
+  write-lock-kept on =
+      state-cases (Kept writeLockStatus writeStatus) st v c (on, refl)
+      (λ new e.
+      unbroken (st .attributes) new writeLockStatus writeStatus (locks-passed (st .edition) (st .attributes) new two (set-passed st (length v) new e .unlocked) .1) on)
+
+-- in both editions a state whose settings are locked stays as it is
+pub locked-kept : (st : State) (v : List ℕ) (c : Call) → flag (st .attributes) lockStatus ≡ true → step st v c .state ≡ st
+unfolding changesLocked withAttributes stateWith
+locked-kept st v c on =
+    state-cases (λ s. s ≡ st) st v c refl
+    (λ new e.
+    let p = any-passed (flag (st .attributes) lockStatus && not (eqb (st .attributes) new)) _ (set-passed st (length v) new e .unlocked) in
+    let same : new ≡ st .attributes = sym (eqb-true (st .attributes) new (not-false _ (rw on at (p .0)))) in
+    ap (λ (a : ℕ). withAttributes st a) same)

@@ -1,15 +1,18 @@
--- The capabilities that a change of settings needs, status by status, as the code asks for them; and which bits the fixed ones are.
-use Prim.Native.Nat.{ℕ, zero, suc, _+_, _*_, _/_, _%_, _^_, _≤_}
+-- The rules of setting, as the code asks for them: the capabilities that a change needs, status by status; what a lock keeps; and which bits the fixed ones are.
+use Prim.Native.Nat.{ℕ, _/_, _%_, _^_}
 use mathlib.Core.Path.{_≡_, refl, sym, ap, _∙_}
-use mathlib.Core.Bool.{Bool, true, false, not, _&&_, _||_, or-assoc, or-true, or-false, and-false}
-use native.Mathlib.Nat.{div-one, div-div-eq-div-mul}
+use mathlib.Core.List.{[], _∷_}
+use mathlib.Core.Bool.{Bool, true, false, not, cond, _&&_, _||_, or-assoc, or-true, or-false, and-false}
 use native.Mathlib.Omega.{arith}
 use borrow.Author.Tests.{eq-eqb, ne-eqb, eqb-true, eqb-false, not-false}
+use lib.Bits.{bitOr}
 use lib.Dec.{eqb}
 use Rattle.common.specs.Refusals.{any}
-use Rattle.common.proofs.Refusals.{any-passed}
-use Rattle.volume.specs.Attributes.{flag, readDisabledCap, readEnabledCap, readStatus, writeDisabledCap, writeEnabledCap, writeStatus, lockCap, lockStatus}
-use Rattle.block_service.specs.Settings.{changesFixed, lacksCapability, raises, clears}
+use Rattle.common.proofs.Bits.{bit, masked-bit, bits-masked}
+use Rattle.volume.specs.Attributes.{flag, readDisabledCap, readEnabledCap, readStatus, writeDisabledCap, writeEnabledCap, writeStatus, lockCap, lockStatus, readLockCap, readLockStatus, writeLockCap, writeLockStatus}
+use Rattle.block_service.specs.Settings.{statusBits, changesFixed, changesLocked, breaksLock, lacksCapability, raises, clears}
+
+-- ---- capabilities
 
 -- a status changes without the capability to raise it or to clear it
 abbrev lacking : Bool → Bool → Bool → Bool → Bool
@@ -25,7 +28,7 @@ module _ (old new : ℕ) where
   abbrev pub lockLacking : Bool
   lockLacking = lacking (flag old lockStatus) (flag new lockStatus) (flag old lockCap) true
 
-  lacks-split : lacksCapability old new ≡ (readLacking || (writeLacking || lockLacking))
+  lacks-split : lacksCapability 1 old new ≡ (readLacking || (writeLacking || lockLacking))
   unfolding lacksCapability any raises clears
   lacks-split =
       regroup
@@ -40,66 +43,106 @@ module _ (old new : ℕ) where
       regroup a b c d e f = sym (rw (or-assoc a b ((c || d) || (e || (f && false))), or-assoc c d (e || (f && false)), and-false f))
 
   -- the three tests, one after the other
-  pub read-lacks : (r : Bool) → r ≡ readLacking → r ≡ true → true ≡ lacksCapability old new
+  pub read-lacks : (r : Bool) → r ≡ readLacking → r ≡ true → true ≡ lacksCapability 1 old new
   read-lacks r e t = rw (lacks-split, ← e, t)
 
   module _ (r : Bool) (er : r ≡ readLacking) (rn : r ≡ false) where
-    pub write-lacks : (w : Bool) → w ≡ writeLacking → w ≡ true → true ≡ lacksCapability old new
+    pub write-lacks : (w : Bool) → w ≡ writeLacking → w ≡ true → true ≡ lacksCapability 1 old new
     write-lacks w e t = rw (lacks-split, ← er, rn, ← e, t)
 
-    pub lock-lacks : (w : Bool) → w ≡ writeLacking → w ≡ false → (l : Bool) → l ≡ lockLacking → l ≡ lacksCapability old new
+    pub lock-lacks : (w : Bool) → w ≡ writeLacking → w ≡ false → (l : Bool) → l ≡ lockLacking → l ≡ lacksCapability 1 old new
     lock-lacks w e t l el = rw (lacks-split, ← er, rn, ← e, t, ← el)
 
--- two numbers that agree modulo 4 agree at their two lowest bits
-low-bits : (x y : ℕ) → x % 4 ≡ y % 4 → (x % 2 ≡ y % 2) × (x / 2 % 2 ≡ y / 2 % 2)
-low-bits x y e = (low x y e, second x y e)
-  where
-    low : (x y : ℕ) → x % 4 ≡ y % 4 → x % 2 ≡ y % 2
-    low x y e = omega arith
-
-    second : (x y : ℕ) → x % 4 ≡ y % 4 → x / 2 % 2 ≡ y / 2 % 2
-    second x y e = omega arith
-
--- two settings agree in every fixed bit: all but 4, 0x20 and 0x80
-pub record SameFixed (old new : ℕ) : Type 0 where
-  pub read-caps : old % 0x4 ≡ new % 0x4
-  pub write-caps : old / 0x8 % 4 ≡ new / 0x8 % 4
-  pub lock-cap : old / 0x40 % 2 ≡ new / 0x40 % 2
-  pub high : old / 0x100 ≡ new / 0x100
-
--- settings that change no fixed bit do
-pub fixed-same : (old new : ℕ) → changesFixed old new ≡ false → SameFixed old new
-unfolding changesFixed
-fixed-same old new e =
-    let a = any-passed (not (eqb (old % 0x4) (new % 0x4))) _ e in
-    let b = any-passed (not (eqb (old / 0x8 % 4) (new / 0x8 % 4))) _ (a .1) in
-    let c = any-passed (not (eqb (old / 0x40 % 2) (new / 0x40 % 2))) _ (b .1) in
-    let d = any-passed (not (eqb (old / 0x100) (new / 0x100))) _ (c .1) in
-    record {
-      read-caps = eqb-true _ _ (not-false _ (a .0));
-      write-caps = eqb-true _ _ (not-false _ (b .0));
-      lock-cap = eqb-true _ _ (not-false _ (c .0));
-      high = eqb-true _ _ (not-false _ (d .0));
-    }
-
--- settings that differ in one of the fixed stretches do not; where they differ in none but perhaps the last, the last decides
+-- the locks of edition 2 are asked for behind those, and in no other edition
 module _ (old new : ℕ) where
-  pub changes-low : (old % 0x4 ≡ new % 0x4 → ⊥) → true ≡ changesFixed old new
-  unfolding changesFixed any
-  changes-low d = rw (ne-eqb _ _ d)
+  abbrev pub readLockLacking : Bool
+  readLockLacking = lacking (flag old readLockStatus) (flag new readLockStatus) (flag old readLockCap) true
 
-  pub changes-write-caps : (old / 0x8 % 4 ≡ new / 0x8 % 4 → ⊥) → true ≡ changesFixed old new
-  unfolding changesFixed any
-  changes-write-caps d = rw (ne-eqb _ _ d, or-true)
+  abbrev pub writeLockLacking : Bool
+  writeLockLacking = lacking (flag old writeLockStatus) (flag new writeLockStatus) (flag old writeLockCap) true
 
-  pub changes-lock-cap : (old / 0x40 % 2 ≡ new / 0x40 % 2 → ⊥) → true ≡ changesFixed old new
-  unfolding changesFixed any
-  changes-lock-cap d = rw (ne-eqb _ _ d, or-true, or-true)
+  locks-split : lacksCapability 2 old new ≡ (lacksCapability 1 old new || (readLockLacking || writeLockLacking))
+  unfolding lacksCapability any raises clears
+  locks-split =
+      regroup
+      (not (flag old readStatus) && flag new readStatus && not (flag old readEnabledCap))
+      (flag old readStatus && not (flag new readStatus) && not (flag old readDisabledCap))
+      (not (flag old writeStatus) && flag new writeStatus && not (flag old writeEnabledCap))
+      (flag old writeStatus && not (flag new writeStatus) && not (flag old writeDisabledCap))
+      (not (flag old lockStatus) && flag new lockStatus && not (flag old lockCap))
+      (not (flag old readLockStatus) && flag new readLockStatus && not (flag old readLockCap))
+      (not (flag old writeLockStatus) && flag new writeLockStatus && not (flag old writeLockCap))
+      (flag old readLockStatus && not (flag new readLockStatus))
+      (flag old writeLockStatus && not (flag new writeLockStatus))
+    where
+      regroup : (a b c d e f g h i : Bool)
+          → (a || (b || (c || (d || (e || (f || (g || false))))))) ≡ ((a || (b || (c || (d || (e || false))))) || ((f || (h && false)) || (g || (i && false))))
+      regroup true b c d e f g h i = refl
+      regroup false true c d e f g h i = refl
+      regroup false false true d e f g h i = refl
+      regroup false false false true e f g h i = refl
+      regroup false false false false true f g h i = refl
+      regroup false false false false false f g h i = sym (rw (and-false h, and-false i, or-false f, or-false g))
 
-  pub changes-high : old % 0x4 ≡ new % 0x4 → old / 0x8 % 4 ≡ new / 0x8 % 4 → old / 0x40 % 2 ≡ new / 0x40 % 2
-      → (t : Bool) → t ≡ not (eqb (old / 0x100) (new / 0x100)) → t ≡ changesFixed old new
-  unfolding changesFixed any
-  changes-high a b d t e = rw (eq-eqb _ _ a, eq-eqb _ _ b, eq-eqb _ _ d, or-false) e
+  pub other-lacks : (edition : ℕ) → (edition ≡ 2 → ⊥) → lacksCapability edition old new ≡ lacksCapability 1 old new
+  unfolding lacksCapability
+  other-lacks edition other = rw (ne-eqb edition 2 other)
+
+  pub shared-lacks : (edition : ℕ) (t : Bool) → t ≡ lacksCapability 1 old new → t ≡ true → true ≡ lacksCapability edition old new
+  shared-lacks edition t e on = go (eqb edition 2) refl
+    where
+      go : (x : Bool) → eqb edition 2 ≡ x → true ≡ lacksCapability edition old new
+      go true q = rw (eqb-true edition 2 q, locks-split, ← e, on)
+      go false q = rw (other-lacks edition (eqb-false edition 2 q), ← e, on)
+
+  module _ (edition : ℕ) (two : edition ≡ 2) (t : Bool) (e : t ≡ lacksCapability 1 old new) (off : t ≡ false) where
+    pub read-lock-lacks : (r : Bool) → r ≡ readLockLacking → r ≡ true → true ≡ lacksCapability edition old new
+    read-lock-lacks r er rt = rw (two, locks-split, ← e, off, ← er, rt)
+
+    pub write-lock-lacks : (r : Bool) → r ≡ readLockLacking → r ≡ false → (w : Bool) → w ≡ writeLockLacking → w ≡ lacksCapability edition old new
+    write-lock-lacks r er rn w ew = rw (two, locks-split, ← e, off, ← er, rn, ← ew)
+
+-- ---- locks
+
+-- a lock that is not set keeps nothing; one that is lowered is broken; and so it is where its status changes
+module _ (old new lock status : ℕ) where
+  pub unlocked : flag old lock ≡ false → false ≡ breaksLock old new lock status
+  unfolding breaksLock
+  unlocked e = rw e
+
+  pub lowered : flag old lock ≡ true → flag new lock ≡ false → true ≡ breaksLock old new lock status
+  unfolding breaksLock
+  lowered e f = rw (e, f)
+
+  module _ (e : flag old lock ≡ true) (f : flag new lock ≡ true) where
+    pub was-raised : flag old status ≡ true → (t : Bool) → t ≡ not (flag new status) → t ≡ breaksLock old new lock status
+    unfolding breaksLock raises clears
+    was-raised s t q = rw (e, f, s) q
+
+    pub was-clear : flag old status ≡ false → (t : Bool) → t ≡ flag new status → t ≡ breaksLock old new lock status
+    unfolding breaksLock raises clears
+    was-clear s t q = rw (e, f, s, or-false) q
+
+-- the three tests of what a lock keeps, one after the other
+module _ (edition old new : ℕ) (t : Bool) (e : t ≡ (flag old lockStatus && not (eqb old new))) where
+  pub any-locked : t ≡ true → true ≡ changesLocked edition old new
+  unfolding changesLocked any
+  any-locked on = rw (← e, on)
+
+  module _ (off : t ≡ false) where
+    pub other-locked : (edition ≡ 2 → ⊥) → false ≡ changesLocked edition old new
+    unfolding changesLocked any
+    other-locked other = rw (← e, off, ne-eqb edition 2 other)
+
+    module _ (two : edition ≡ 2) where
+      pub read-locked : (r : Bool) → r ≡ breaksLock old new readLockStatus readStatus → r ≡ true → true ≡ changesLocked edition old new
+      unfolding changesLocked any
+      read-locked r er on = rw (two, ← e, off, ← er, on)
+
+      pub write-locked : (r : Bool) → r ≡ breaksLock old new readLockStatus readStatus → r ≡ false
+          → (w : Bool) → w ≡ breaksLock old new writeLockStatus writeStatus → w ≡ changesLocked edition old new
+      unfolding changesLocked any
+      write-locked r er rn w ew = rw (two, ← e, off, ← er, rn, ← ew, or-false)
 
 -- whether two numbers differ, either way round
 pub differ-comm : (a b : ℕ) → not (eqb a b) ≡ not (eqb b a)
@@ -109,74 +152,44 @@ differ-comm a b = go (eqb a b) refl
     go true e = ap not (sym (eq-eqb b a (sym (eqb-true a b e))))
     go false e = ap not (sym (ne-eqb b a (λ q. eqb-false a b e (sym q))))
 
--- where no fixed bit is changed, the settings agree at every bit but 4 (2 ^ 2), 0x20 (2 ^ 5) and 0x80 (2 ^ 7)
-pub fixed-bits : (old new : ℕ) → changesFixed old new ≡ false → (k : ℕ) → (k ≡ 2 → ⊥) → (k ≡ 5 → ⊥) → (k ≡ 7 → ⊥)
-    → old / 2 ^ k % 2 ≡ new / 2 ^ k % 2
-fixed-bits old new e k two five seven = bits k two five seven (fixed-same old new e)
-  where
-    bits : (k : ℕ) → (k ≡ 2 → ⊥) → (k ≡ 5 → ⊥) → (k ≡ 7 → ⊥) → SameFixed old new → old / 2 ^ k % 2 ≡ new / 2 ^ k % 2
-    bits zero p q r f = rw (div-one, div-one) (low-bits old new (f .read-caps) .0)
-    bits (suc zero) p q r f = low-bits old new (f .read-caps) .1
-    bits (suc (suc zero)) p q r f = absurd (p refl)
-    bits (suc (suc (suc zero))) p q r f = low-bits (old / 8) (new / 8) (f .write-caps) .0
-    bits (suc (suc (suc (suc zero)))) p q r f =
-        rw (div-div-eq-div-mul old 8 2, div-div-eq-div-mul new 8 2) at (low-bits (old / 8) (new / 8) (f .write-caps) .1)
-    bits (suc (suc (suc (suc (suc zero))))) p q r f = absurd (q refl)
-    bits (suc (suc (suc (suc (suc (suc zero)))))) p q r f = f .lock-cap
-    bits (suc (suc (suc (suc (suc (suc (suc zero))))))) p q r f = absurd (r refl)
-    bits (suc (suc (suc (suc (suc (suc (suc (suc k)))))))) p q r f =
-        let e : 2 ^ suc (suc (suc (suc (suc (suc (suc (suc k))))))) ≡ 256 * 2 ^ k = omega arith in
-        rw (e, ← div-div-eq-div-mul old 256 (2 ^ k), ← div-div-eq-div-mul new 256 (2 ^ k), f .high)
+-- ---- the fixed bits
 
--- numbers that agree at every bit are equal
-bits-same : (n a b : ℕ) → a ≤ n → b ≤ n → ((k : ℕ) → a / 2 ^ k % 2 ≡ b / 2 ^ k % 2) → a ≡ b
-bits-same zero a b p q h = omega arith
-bits-same (suc n) a b p q h =
-    let low : a % 2 ≡ b % 2 = rw (div-one, div-one) at (h 0) in
-    let half : a / 2 ≡ b / 2 = bits-same n (a / 2) (b / 2) (omega arith) (omega arith) (λ k. shift a k ∙ h (suc k) ∙ sym (shift b k)) in
-    omega arith
-  where
-    shift : (x k : ℕ) → x / 2 / 2 ^ k % 2 ≡ x / 2 ^ suc k % 2
-    shift x k = let e : 2 ^ suc k ≡ 2 * 2 ^ k = omega arith in rw (e, div-div-eq-div-mul x 2 (2 ^ k))
+-- where no fixed bit is changed the settings are the same once the statuses are raised in both
+pub same-fixed : (edition old new : ℕ) → changesFixed edition old new ≡ false → bitOr old (statusBits edition) ≡ bitOr new (statusBits edition)
+unfolding changesFixed
+same-fixed edition old new e = eqb-true _ _ (not-false _ e)
 
--- numbers that agree at their two lowest bits agree modulo 4
-two-bits : (x y : ℕ) → x % 2 ≡ y % 2 → x / 2 % 2 ≡ y / 2 % 2 → x % 4 ≡ y % 4
-two-bits x y a b = omega arith
+-- so they agree at every bit but the statuses'
+pub fixed-bits : (edition old new : ℕ) → changesFixed edition old new ≡ false → (k : ℕ) → bit (statusBits edition) k ≡ 0 → bit old k ≡ bit new k
+fixed-bits edition old new e = masked-bit old new (statusBits edition) (same-fixed edition old new e)
 
--- two settings that agree at every bit but 4, 0x20 and 0x80 change no fixed bit
-pub bits-fixed : (old new : ℕ) → ((k : ℕ) → (k ≡ 2 → ⊥) → (k ≡ 5 → ⊥) → (k ≡ 7 → ⊥) → old / 2 ^ k % 2 ≡ new / 2 ^ k % 2)
-    → changesFixed old new ≡ false
-unfolding changesFixed any
-bits-fixed old new h =
-    let b0 : old % 2 ≡ new % 2 = rw (div-one, div-one) at (at 0 (λ e. omega arith) (λ e. omega arith) (λ e. omega arith)) in
-    let b1 : old / 2 % 2 ≡ new / 2 % 2 = at 1 (λ e. omega arith) (λ e. omega arith) (λ e. omega arith) in
-    let b3 : old / 8 % 2 ≡ new / 8 % 2 = at 3 (λ e. omega arith) (λ e. omega arith) (λ e. omega arith) in
-    let b4 : old / 16 % 2 ≡ new / 16 % 2 = at 4 (λ e. omega arith) (λ e. omega arith) (λ e. omega arith) in
-    let b6 : old / 64 % 2 ≡ new / 64 % 2 = at 6 (λ e. omega arith) (λ e. omega arith) (λ e. omega arith) in
-    let low : old % 4 ≡ new % 4 = two-bits old new b0 b1 in
-    let mid : old / 8 % 4 ≡ new / 8 % 4 = two-bits (old / 8) (new / 8) b3 (rw (div-div-eq-div-mul old 8 2, div-div-eq-div-mul new 8 2) b4) in
-    let high : old / 256 ≡ new / 256 = bits-same (old / 256 + new / 256) (old / 256) (new / 256) (omega arith) (omega arith) above in
-    rw (eq-eqb _ _ low, eq-eqb _ _ mid, eq-eqb _ _ b6, eq-eqb _ _ high)
-  where
-    at : (k : ℕ) → (k ≡ 2 → ⊥) → (k ≡ 5 → ⊥) → (k ≡ 7 → ⊥) → old / 2 ^ k % 2 ≡ new / 2 ^ k % 2
-    at = h
-
-    above : (k : ℕ) → old / 256 / 2 ^ k % 2 ≡ new / 256 / 2 ^ k % 2
-    above k =
-        let e : 2 ^ suc (suc (suc (suc (suc (suc (suc (suc k))))))) ≡ 256 * 2 ^ k = omega arith in
-        rw (div-div-eq-div-mul old 256 (2 ^ k), div-div-eq-div-mul new 256 (2 ^ k), ← e)
-        (h (suc (suc (suc (suc (suc (suc (suc (suc k)))))))) (λ z. omega arith) (λ z. omega arith) (λ z. omega arith))
+-- and two settings that do change no fixed bit
+pub bits-fixed : (edition old new : ℕ) → ((k : ℕ) → bit (statusBits edition) k ≡ 0 → bit old k ≡ bit new k) → changesFixed edition old new ≡ false
+unfolding changesFixed
+bits-fixed edition old new h = ap not (eq-eqb _ _ (bits-masked old new (statusBits edition) h))
 
 -- settings that stay as they are break no rule
-pub fixed-none : (a : ℕ) → changesFixed a a ≡ false
-fixed-none a = bits-fixed a a (λ k p q r. refl)
+pub fixed-none : (edition a : ℕ) → changesFixed edition a a ≡ false
+fixed-none edition a = bits-fixed edition a a (λ k e. refl)
 
-pub locked-none : (a : ℕ) → (flag a lockStatus && not (eqb a a)) ≡ false
-locked-none a = rw (eq-eqb a a refl) (and-false (flag a lockStatus))
+pub locked-none : (edition a : ℕ) → changesLocked edition a a ≡ false
+unfolding changesLocked breaksLock raises clears any
+locked-none edition a =
+    rw (eq-eqb a a refl, and-false (flag a lockStatus))
+    (go (eqb edition 2) (flag a readLockStatus) (flag a readStatus) (flag a writeLockStatus) (flag a writeStatus))
+  where
+    quiet : (l s : Bool) → (l && (not l || (not s && s || s && not s))) ≡ false
+    quiet true true = refl
+    quiet true false = refl
+    quiet false s = refl
 
-pub lacks-none : (a : ℕ) → lacksCapability a a ≡ false
+    go : (t l s m w : Bool) → any (cond t ((l && (not l || (not s && s || s && not s))) ∷ (m && (not m || (not w && w || w && not w))) ∷ []) []) ≡ false
+    go true l s m w = rw (quiet l s, quiet m w)
+    go false l s m w = refl
+
+shared-none : (a : ℕ) → lacksCapability 1 a a ≡ false
 unfolding lacksCapability any raises clears
-lacks-none a =
+shared-none a =
     go (flag a readStatus) (flag a writeStatus) (flag a lockStatus)
     (not (flag a readEnabledCap)) (not (flag a readDisabledCap)) (not (flag a writeEnabledCap)) (not (flag a writeDisabledCap)) (not (flag a lockCap))
   where
@@ -190,3 +203,14 @@ lacks-none a =
     go false true false a b c d e = refl
     go false false true a b c d e = refl
     go false false false a b c d e = refl
+
+still : (s may : Bool) → lacking s s may true ≡ false
+still true may = refl
+still false may = refl
+
+pub lacks-none : (edition a : ℕ) → lacksCapability edition a a ≡ false
+lacks-none edition a = go (eqb edition 2) refl
+  where
+    go : (t : Bool) → eqb edition 2 ≡ t → lacksCapability edition a a ≡ false
+    go true e = rw (eqb-true edition 2 e, locks-split a a, shared-none a, still (flag a readLockStatus) (flag a readLockCap), still (flag a writeLockStatus) (flag a writeLockCap))
+    go false e = other-lacks a a edition (eqb-false edition 2 e) ∙ shared-none a

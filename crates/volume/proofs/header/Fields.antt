@@ -1,7 +1,7 @@
 -- Laws of the header: its fields one at a time, for the loops that read them, and what its refusal tables say.
 use Prim.Native.Nat.{ℕ, zero, suc, _+_, _*_, _%_, _≤_, _<_}
 use mathlib.Core.Path.{_≡_, refl, ap, _∙_}
-use mathlib.Core.Bool.{false, not}
+use mathlib.Core.Bool.{true, false, not}
 use mathlib.Core.List.{List, [], _++_}
 use mathlib.Core.Option.{Option, none, some}
 use native.Mathlib.Nat.{add-zero, mul-zero}
@@ -14,9 +14,10 @@ use Rattle.common.specs.Refusals.{Row, firstRefusal, unlessRefused}
 use Rattle.common.proofs.Refusals.{any-passed, row-passed, then-passed, then-refused}
 use Rattle.common.proofs.Lists.{drop-zeros}
 use Rattle.numbers.specs.LittleEndian.{le}
+use Rattle.volume.specs.Attributes.{knownEdition}
 use Rattle.volume.specs.BlockMap.{maxEntries}
 use Rattle.volume.specs.State.{stateWith, stateOf, zeroState}
-use Rattle.volume.specs.Header.{guidAt, lengthAt, attributesAt, headerLengthAt, entriesOf, mapStart, wordModulus, wordSum, wordsAt, stateAt, headerLengthFault, minHeader, maxHeader, openRefusals, Opens, opens, opened, openVolume}
+use Rattle.volume.specs.Header.{guidAt, lengthAt, attributesAt, revisionAt, headerLengthAt, entriesOf, mapStart, wordModulus, wordSum, wordsAt, stateAt, headerLengthFault, minHeader, maxHeader, openRefusals, Opens, opens, opened, openVolume}
 use Rattle.volume.specs.declared.state.State.{State}
 
 -- k words, and the word at place i of them
@@ -35,7 +36,7 @@ wordsAt-at (suc k) s at (suc i) h =
 
 -- ---- opening
 
--- the rows 101 to 105 of opening's table, which no state enters, and 106 to 110
+-- the rows 101 to 105 of opening's table, which no state enters, and 106 to 112
 abbrev pub bytesRefusals : List ℕ → List Row
 bytesRefusals s = take 5 (openRefusals s zeroState)
 
@@ -49,6 +50,7 @@ rows-split s st = refl
 -- what bytes that pass 101 to 105 are known to hold
 pub record Readable (s : List ℕ) : Type 0 where
   pub long : minHeader ≤ length s
+  pub known : knownEdition (revisionAt s) ≡ true
   pub least : minHeader ≤ headerLengthAt s
   pub most : headerLengthAt s ≤ maxHeader
   pub within : headerLengthAt s ≤ length s
@@ -75,6 +77,7 @@ readable s p =
     let h = header-length-passed (headerLengthAt s) (length s) (r4 .0) in
     record {
       long = ltb-false (length s) minHeader (r1 .0);
+      known = not-false _ (r3 .0);
       least = h .0;
       most = h .1;
       within = h .2;
@@ -83,10 +86,11 @@ readable s p =
     }
 
 -- the parts that opening reads, the map's words stored over 64 zeros, make the state
-pub state-parts : (s : List ℕ) (base : ℕ) {len a n : ℕ} {map : List ℕ} → len ≡ lengthAt s → a ≡ attributesAt s → n ≡ entriesOf (headerLengthAt s)
-    → map ≡ wordsAt (2 * n) s mapStart ++ drop (2 * n) (replicate 64 0) → stateWith (guidAt s) len a base n map ≡ stateAt s base
+pub state-parts : (s : List ℕ) (base : ℕ) {len a edition n : ℕ} {map : List ℕ} → len ≡ lengthAt s → a ≡ attributesAt s → edition ≡ revisionAt s
+    → n ≡ entriesOf (headerLengthAt s) → map ≡ wordsAt (2 * n) s mapStart ++ drop (2 * n) (replicate 64 0)
+    → stateWith (guidAt s) len a base edition n map ≡ stateAt s base
 unfolding stateAt stateOf
-state-parts s base {n = n} l a e m = rw (l, a, m, drop-zeros (2 * n) 64, e)
+state-parts s base {n = n} l a r e m = rw (l, a, r, m, drop-zeros (2 * n) 64, e)
 
 -- a readable header's state keeps the limit of entries
 entries-bound : (s : List ℕ) (base : ℕ) → Readable s → 2 * stateAt s base .entries ≤ 2 * maxEntries

@@ -14,34 +14,36 @@ use Rattle.common.specs.Refusals.{firstRefusal, unlessRefused}
 use Rattle.common.proofs.Refusals.{row-passed}
 use Rattle.numbers.specs.LittleEndian.{le, leBytes}
 use Rattle.numbers.proofs.LittleEndian.{le-skip, le-leBytes, length-leBytes}
-use Rattle.volume.specs.Attributes.{attributesFault, baseFault}
+use Rattle.volume.specs.Attributes.{knownEdition, attributesFault, baseFault}
 use Rattle.volume.specs.BlockMap.{headerLength, hasZero, sizeFault}
-use Rattle.volume.specs.State.{stateOf}
-use Rattle.volume.specs.Header.{signature, headerLengthAt, opened, wordModulus, wordsAt, wordSum, openVolume}
-use Rattle.volume.specs.HeaderWriter.{pairs, wordsBytes, headerFront, headerWith, headerBytes, reservedAndRevision, checksum, wordsFault, writeRefusals, HeaderWritten, wrote, writeHeader}
+use Rattle.volume.specs.ExtendedHeader.{extOffset, extFault}
+use Rattle.volume.specs.State.{stateOf, zeroState}
+use Rattle.volume.specs.Header.{signature, headerLengthAt, opens, opened, wordModulus, wordsAt, wordSum, openVolume}
+use Rattle.volume.specs.HeaderWriter.{pairs, wordsBytes, headerFront, headerWith, headerBack, headerBytes, checksum, wordsFault, writeRefusals, HeaderWritten, wrote, writeHeader}
 use Rattle.volume.proofs.block_map.Words.{Sized, size-passed}
 use Rattle.volume.proofs.header.Sums.{wordSum-append, wordSum-two}
-use Rattle.volume.proofs.header_writer.Stores.{length-wordsBytes, length-front, length-header}
-use Rattle.volume.proofs.header.Reading.{Holds, opens-to}
+use Rattle.volume.proofs.header_writer.Stores.{length-wordsBytes, length-front, length-back, length-header}
+use Rattle.volume.proofs.extended_header.Entries.{no-offset}
+use Rattle.volume.proofs.header.Reading.{Holds, opens-to, refused-112}
 
 -- ---- the sum
 
 -- the words of a header with some checksum sum to those of the header with 0 and the checksum
-wordSum-header : (c : ℕ) (guid : List ℕ) (len a : ℕ) (words : List ℕ) → length guid ≡ 16 → c < wordModulus
-    → wordSum (headerWith c guid len a words) ≡ wordSum (headerWith 0 guid len a words) + c
+wordSum-header : (c edition offset : ℕ) (guid : List ℕ) (len a : ℕ) (words : List ℕ) → length guid ≡ 16 → c < wordModulus
+    → wordSum (headerWith c edition offset guid len a words) ≡ wordSum (headerWith 0 edition offset guid len a words) + c
 unfolding headerWith
-wordSum-header c guid len a words e small =
+wordSum-header c edition offset guid len a words e small =
     let f = headerFront guid len a (headerLength (length words / 2)) in
-    let b = reservedAndRevision ++ (wordsBytes words ++ replicate 8 0) in
+    let b = headerBack edition offset ++ (wordsBytes words ++ replicate 8 0) in
     let even : length f % 2 ≡ 0 = rw (length-front guid len a (headerLength (length words / 2)) e) in
     rw (wordSum-append f (leBytes 2 c ++ b) even, wordSum-append f (leBytes 2 0 ++ b) even, wordSum-two c b, wordSum-two 0 b) (omega arith)
 
 -- the words of a written header sum to 0 modulo 65,536
-sum-zero : (guid : List ℕ) (len a : ℕ) (words : List ℕ) → length guid ≡ 16 → wordSum (headerBytes guid len a words) % wordModulus ≡ 0
+sum-zero : (edition offset : ℕ) (guid : List ℕ) (len a : ℕ) (words : List ℕ) → length guid ≡ 16 → wordSum (headerBytes edition offset guid len a words) % wordModulus ≡ 0
 unfolding headerBytes
-sum-zero guid len a words e =
-    let s = wordSum (headerWith 0 guid len a words) in
-    rw (wordSum-header (checksum s) guid len a words e (omega arith)) (omega arith)
+sum-zero edition offset guid len a words e =
+    let s = wordSum (headerWith 0 edition offset guid len a words) in
+    rw (wordSum-header (checksum s) edition offset guid len a words e (omega arith)) (omega arith)
 
 -- ---- reading a written header
 
@@ -66,29 +68,29 @@ words-read (w ∷ words) p q below =
     (ap₂ (λ (l : List ℕ) (k : ℕ). wordsAt (length words) l k) there past ∙ words-read words (p ++ leBytes 4 w) q (λ i. below (suc i)))
 
 -- the header, its parts in a row, and what follows it
-header-parts : (c : ℕ) (guid : List ℕ) (len a : ℕ) (words rest : List ℕ)
-    → headerWith c guid len a words ++ rest
+header-parts : (c edition offset : ℕ) (guid : List ℕ) (len a : ℕ) (words rest : List ℕ)
+    → headerWith c edition offset guid len a words ++ rest
     ≡ replicate 16 0 ++ (guid ++ (leBytes 8 len ++ (leBytes 4 signature ++ (leBytes 4 a ++ (leBytes 2 (headerLength (length words / 2))
-    ++ (leBytes 2 c ++ (reservedAndRevision ++ (wordsBytes words ++ (replicate 8 0 ++ rest)))))))))
+    ++ (leBytes 2 c ++ (headerBack edition offset ++ (wordsBytes words ++ (replicate 8 0 ++ rest)))))))))
 unfolding headerWith headerFront
-header-parts c guid len a words rest = simp append-assoc
+header-parts c edition offset guid len a words rest = simp append-assoc
 
 -- what a volume that starts with a header holds
-module _ (guid : List ℕ) (len a : ℕ) (words rest : List ℕ) (c : ℕ) (g : length guid ≡ 16) (even : length words % 2 ≡ 0) (small : a < 2 ^ 32)
+module _ (edition offset : ℕ) (guid : List ℕ) (len a : ℕ) (words rest : List ℕ) (c : ℕ) (one-byte : edition < 256) (two-bytes : offset < 2 ^ 16) (g : length guid ≡ 16) (even : length words % 2 ≡ 0) (small : a < 2 ^ 32)
     (below : (i : ℕ) → getD words i 0 < 2 ^ 32) (size : Sized (length words / 2) words len)
-    (sum : wordSum (headerWith c guid len a words) % wordModulus ≡ 0) where
+    (sum : wordSum (headerWith c edition offset guid len a words) % wordModulus ≡ 0) where
   n : ℕ
   n = length words / 2
 
   v : List ℕ
-  v = headerWith c guid len a words ++ rest
+  v = headerWith c edition offset guid len a words ++ rest
 
   tail : List ℕ
   tail = wordsBytes words ++ (replicate 8 0 ++ rest)
 
   t50 : List ℕ
   unfolding tail
-  t50 = leBytes 2 c ++ (reservedAndRevision ++ tail)
+  t50 = leBytes 2 c ++ (headerBack edition offset ++ tail)
 
   t48 : List ℕ
   unfolding t50
@@ -105,7 +107,7 @@ module _ (guid : List ℕ) (len a : ℕ) (words rest : List ℕ) (c : ℕ) (g : 
 
   parts : v ≡ replicate 16 0 ++ (guid ++ t32)
   unfolding v t32 t40 t44 t48 t50 tail n
-  parts = header-parts c guid len a words rest
+  parts = header-parts c edition offset guid len a words rest
 
   -- a number at byte 32 + k is one at byte k of the fields after the GUID
   after-guid : (m k : ℕ) → le m v (32 + k) ≡ le m t32 k
@@ -152,22 +154,33 @@ module _ (guid : List ℕ) (len a : ℕ) (words rest : List ℕ) (c : ℕ) (g : 
   unfolding t48 n
   header-length-read = after-attributes 2 0 ∙ le-leBytes 2 (headerLength n) t50 (omega arith)
 
-  revision-read : getD v 55 0 ≡ 1
-  unfolding t50 le
-  revision-read =
-      let one = after-header-length 1 5 ∙ le-after 1 (leBytes 2 c) (reservedAndRevision ++ tail) 5 3 (ap (λ (x : ℕ). x + 3) (length-leBytes 2 c)) in
-      omega arith
+  t52 : List ℕ
+  t52 = headerBack edition offset ++ tail
+
+  after-checksum : (m k : ℕ) → le m v (52 + k) ≡ le m t52 k
+  unfolding t50 t52
+  after-checksum = after-field 50 2 (leBytes 2 c) (headerBack edition offset ++ tail) (length-leBytes 2 c) after-header-length
+
+  offset-read : le 2 v 52 ≡ offset
+  unfolding t52 headerBack
+  offset-read =
+      after-checksum 2 0 ∙ ap (λ (l : List ℕ). le 2 l 0) (append-assoc (leBytes 2 offset) (leBytes 1 0 ++ leBytes 1 edition) tail)
+      ∙ le-leBytes 2 offset ((leBytes 1 0 ++ leBytes 1 edition) ++ tail) two-bytes
+
+  revision-read : getD v 55 0 ≡ edition
+  unfolding t52 headerBack leBytes le
+  revision-read = let one = after-checksum 1 3 in omega arith
 
   guid-read : take 16 (drop 16 v) ≡ guid
   guid-read = ap (λ (l : List ℕ). take 16 (drop 16 l)) parts ∙ take-at guid t32 16 g
 
   -- the bytes before the map
   before-map : List ℕ
-  before-map = headerFront guid len a (headerLength n) ++ (leBytes 2 c ++ reservedAndRevision)
+  before-map = headerFront guid len a (headerLength n) ++ (leBytes 2 c ++ headerBack edition offset)
 
   length-before-map : length before-map ≡ 56
   unfolding before-map
-  length-before-map = simp (length-append, length-leBytes, length-front guid len a (headerLength n) g)
+  length-before-map = simp (length-append, length-leBytes, length-back, length-front guid len a (headerLength n) g)
 
   map-after : v ≡ before-map ++ (wordsBytes words ++ (replicate 8 0 ++ rest))
   unfolding v before-map headerWith n
@@ -188,9 +201,9 @@ module _ (guid : List ℕ) (len a : ℕ) (words rest : List ℕ) (c : ℕ) (g : 
 
   sum-read : wordSum (take (64 + 8 * n) v) % wordModulus ≡ 0
   unfolding v n
-  sum-read = rw (take-at (headerWith c guid len a words) rest (64 + 8 * n) (length-header c guid len a words g even)) sum
+  sum-read = rw (take-at (headerWith c edition offset guid len a words) rest (64 + 8 * n) (length-header c edition offset guid len a words g even)) sum
 
-  pub holds : len ≤ length (headerWith c guid len a words ++ rest) → Holds (headerWith c guid len a words ++ rest) guid len a (length words / 2) words
+  pub holds : len ≤ length (headerWith c edition offset guid len a words ++ rest) → Holds (headerWith c edition offset guid len a words ++ rest) guid len a edition (length words / 2) words
   unfolding v n
   holds lent =
       record {
@@ -218,72 +231,144 @@ words-passed words = go (hasZero words) (eqb (length words % 2) 0) refl
     go false true q p = (refl, eqb-true (length words % 2) 0 q)
     go false false q p = absurd (true≢false p)
 
-record Accepted (len a : ℕ) (words : List ℕ) : Type 0 where
+record Accepted (edition len a : ℕ) (words : List ℕ) : Type 0 where
   pub nonzero : hasZero words ≡ false
   pub even : length words % 2 ≡ 0
   pub size : sizeFault (length words / 2) words len ≡ false
-  pub attributes : attributesFault a ≡ false
+  pub attributes : attributesFault edition a ≡ false
 
-accepted : (len a : ℕ) (words : List ℕ) (room : ℕ) → firstRefusal (writeRefusals len a words room) ≡ none → Accepted len a words
+accepted : (edition len a : ℕ) (words : List ℕ) (room : ℕ) → firstRefusal (writeRefusals edition len a words room) ≡ none → Accepted edition len a words
 unfolding writeRefusals
-accepted len a words room p =
+accepted edition len a words room p =
     let r1 = row-passed _ _ p in
     let r2 = row-passed _ _ (r1 .1) in
     let r3 = row-passed _ _ (r2 .1) in
     let w = words-passed words (r1 .0) in
     record { nonzero = w .0; even = w .1; size = r2 .0; attributes = r3 .0 }
 
--- a volume that starts with the header opens
-from-header : (guid : List ℕ) (len a : ℕ) (words : List ℕ) → length guid ≡ 16 → a < 2 ^ 32 → ((i : ℕ) → getD words i 0 < 2 ^ 32) → Accepted len a words
-    → (rest : List ℕ) → len ≤ length (headerBytes guid len a words ++ rest) → (base : ℕ) → baseFault a base ≡ false
-    → openVolume (headerBytes guid len a words ++ rest) base ≡ opened (stateOf guid len a base (pairs words) words)
-unfolding headerBytes
-from-header guid len a words g small below ok rest lent base mapped =
-    let c = checksum (wordSum (headerWith 0 guid len a words)) in
-    opens-to (headerBytes guid len a words ++ rest) guid len a (length words / 2) words base
-    (holds guid len a words rest c g (ok .even) small below (size-passed (length words / 2) words len (ok .size)) (sum-zero guid len a words g) lent)
-    (ok .nonzero) (ok .size) (ok .attributes) mapped
+-- a volume that starts with the header holds its values
+module _ (edition offset : ℕ) (known : knownEdition edition ≡ true) (one-byte : edition < 256) (two-bytes : offset < 2 ^ 16) (guid : List ℕ) (len a : ℕ)
+    (words : List ℕ) (g : length guid ≡ 16) (small : a < 2 ^ 32) (below : (i : ℕ) → getD words i 0 < 2 ^ 32) where
+  header : List ℕ
+  header = headerBytes edition offset guid len a words
 
--- For every argument that writing accepts (a GUID of 16 bytes, 32-bit attributes and words), every volume of that length
--- (or lent with more bytes after it) that starts with the written header opens, at every base that 110 allows, to the same GUID, length, attributes, map and that base.
-pub round-trip : (guid : List ℕ) (len a : ℕ) (words room : List ℕ) → length guid ≡ 16 → a < 2 ^ 32 → ((i : ℕ) → getD words i 0 < 2 ^ 32)
-    → (k : ℕ) → writeHeader guid len a words room .answer ≡ success (k ∷ [])
-    → (v : List ℕ) → len ≤ length v → take k v ≡ take k (writeHeader guid len a words room .room)
-    → (base : ℕ) → baseFault a base ≡ false
-    → openVolume v base ≡ opened (stateOf guid len a base (pairs words) words)
-unfolding writeHeader
-round-trip guid len a words room g small below k done v lent starts base mapped = go (firstRefusal (writeRefusals len a words (length room))) refl done starts
-  where
-    header : List ℕ
-    header = headerBytes guid len a words
+  module _ (ok : Accepted edition len a words) (rest : List ℕ) (lent : len ≤ length (header ++ rest)) where
+    there : Holds (header ++ rest) guid len a edition (length words / 2) words
+    unfolding header headerBytes
+    there =
+        let c = checksum (wordSum (headerWith 0 edition offset guid len a words)) in
+        holds edition offset guid len a words rest c one-byte two-bytes g (ok .even) small below (size-passed (length words / 2) words len (ok .size))
+        (sum-zero edition offset guid len a words g) lent
+
+    offset-there : le 2 (header ++ rest) 52 ≡ offset
+    unfolding header headerBytes v
+    offset-there =
+        let c = checksum (wordSum (headerWith 0 edition offset guid len a words)) in
+        offset-read edition offset guid len a words rest c one-byte two-bytes g (ok .even) small below (size-passed (length words / 2) words len (ok .size))
+        (sum-zero edition offset guid len a words g)
+
+  -- what writing came to, and a volume that starts with it
+  module _ (room : List ℕ) (k : ℕ) (done : writeHeader edition offset guid len a words room .answer ≡ success (k ∷ [])) (v : List ℕ) (lent : len ≤ length v)
+      (starts : take k v ≡ take k (writeHeader edition offset guid len a words room .room)) where
+    record Starts : Type 0 where
+      pub ok : Accepted edition len a words
+      pub long : k ≡ 64 + 8 * (length words / 2)
+      pub whole : v ≡ header ++ drop k v
 
     outcome : Option ℕ → HeaderWritten
     outcome o = unlessRefused (λ n. wrote (refused n) room) o (wrote (success (length header ∷ [])) (header ++ drop (length header) room))
 
-    go : (o : Option ℕ) → firstRefusal (writeRefusals len a words (length room)) ≡ o → outcome o .answer ≡ success (k ∷ [])
-        → take k v ≡ take k (outcome o .room)
-        → openVolume v base ≡ opened (stateOf guid len a base (pairs words) words)
-    go (some m) p w t = let z : _≡_ {A = ℕ} 0 1 = cc in absurd (omega arith)
-    go none p w t =
-        let e : length header ≡ k = cc in
-        let whole : v ≡ header ++ drop k v =
-        sym (take-append-drop k v) ∙ ap (λ (l : List ℕ). l ++ drop k v) (t ∙ take-at header (drop (length header) room) k e) in
-        rw whole (from-header guid len a words g small below (accepted len a words (length room) p) (drop k v) (subst (λ (l : List ℕ). len ≤ length l) whole lent) base mapped)
+    begins : Starts
+    unfolding writeHeader header headerBytes outcome
+    begins = go (firstRefusal (writeRefusals edition len a words (length room))) refl done starts
+      where
+        go : (o : Option ℕ) → firstRefusal (writeRefusals edition len a words (length room)) ≡ o → outcome o .answer ≡ success (k ∷ [])
+            → take k v ≡ take k (outcome o .room) → Starts
+        go (some m) p w t = let z : _≡_ {A = ℕ} 0 1 = cc in absurd (omega arith)
+        go none p w t =
+            let e : length header ≡ k = cc in
+            let fine = accepted edition len a words (length room) p in
+            record {
+              ok = fine;
+              long = sym e ∙ length-header (checksum (wordSum (headerWith 0 edition offset guid len a words))) edition offset guid len a words g (fine .even);
+              whole = sym (take-append-drop k v) ∙ ap (λ (l : List ℕ). l ++ drop k v) (t ∙ take-at header (drop (length header) room) k e);
+            }
+
+    module _ (base : ℕ) (mapped : baseFault a base ≡ false) where
+      sound : Holds v guid len a edition (length words / 2) words
+      sound =
+          let b = begins in
+          subst (λ (l : List ℕ). Holds l guid len a edition (length words / 2) words) (sym (b .whole))
+          (there (b .ok) (drop k v) (subst (λ (l : List ℕ). len ≤ length l) (b .whole) lent))
+
+      -- the offset stands in bytes 52 and 53
+      pub offset-stored : le 2 v 52 ≡ offset
+      offset-stored =
+          let b = begins in
+          ap (λ (l : List ℕ). le 2 l 52) (b .whole) ∙ offset-there (b .ok) (drop k v) (subst (λ (l : List ℕ). len ≤ length l) (b .whole) lent)
+
+      -- For every argument that writing accepts (a GUID of 16 bytes, 32-bit attributes and words, a 16-bit offset), every volume of that length (or
+      -- lent with more bytes after it) that starts with the written header and for which 112 is not due opens, at every base that 110 allows, to the
+      -- same GUID, length, attributes, edition, map and that base
+      pub written-opens : extFault v k len (extOffset edition v) ≡ false → openVolume v base ≡ opened (stateOf guid len a base edition (pairs words) words)
+      written-opens ext =
+          let b = begins in
+          opens-to v guid len a edition (length words / 2) words base sound known (b .ok .nonzero) (b .ok .size) (b .ok .attributes) mapped
+          (ap (λ (h : ℕ). extFault v h len (extOffset edition v)) (sym (b .long)) ∙ ext)
+
+      -- and where it is due it is refused with 112
+      pub written-refused : extFault v k len (extOffset edition v) ≡ true → openVolume v base ≡ opens (refused 112) zeroState
+      written-refused ext =
+          let b = begins in
+          refused-112 v guid len a edition (length words / 2) words base sound known (b .ok .nonzero) (b .ok .size) (b .ok .attributes) mapped
+          (ap (λ (h : ℕ). extFault v h len (extOffset edition v)) (sym (b .long)) ∙ ext)
+
+-- the first writer's header: 112 is never due
+pub round-trip : (guid : List ℕ) (len a : ℕ) (words room : List ℕ) → length guid ≡ 16 → a < 2 ^ 32 → ((i : ℕ) → getD words i 0 < 2 ^ 32)
+    → (k : ℕ) → writeHeader 1 0 guid len a words room .answer ≡ success (k ∷ [])
+    → (v : List ℕ) → len ≤ length v → take k v ≡ take k (writeHeader 1 0 guid len a words room .room)
+    → (base : ℕ) → baseFault a base ≡ false
+    → openVolume v base ≡ opened (stateOf guid len a base 1 (pairs words) words)
+unfolding knownEdition extOffset
+round-trip guid len a words room g small below k done v lent starts base mapped =
+    written-opens 1 0 refl (omega arith) (omega arith) guid len a words g small below room k done v lent starts base mapped (sym (no-offset v k len refl))
+
+-- the second's: where 112 is not due, as of offset 0
+module _ (offset : ℕ) (two-bytes : offset < 2 ^ 16) (guid : List ℕ) (len a : ℕ) (words room : List ℕ) (g : length guid ≡ 16) (small : a < 2 ^ 32)
+    (below : (i : ℕ) → getD words i 0 < 2 ^ 32) (k : ℕ) (done : writeHeader 2 offset guid len a words room .answer ≡ success (k ∷ []))
+    (v : List ℕ) (lent : len ≤ length v) (starts : take k v ≡ take k (writeHeader 2 offset guid len a words room .room))
+    (base : ℕ) (mapped : baseFault a base ≡ false) where
+  there-is : extOffset 2 v ≡ offset
+  unfolding knownEdition extOffset
+  there-is = offset-stored 2 offset refl (omega arith) two-bytes guid len a words g small below room k done v lent starts base mapped
+
+  pub pi-round-trip : extFault v k len offset ≡ false → openVolume v base ≡ opened (stateOf guid len a base 2 (pairs words) words)
+  unfolding knownEdition
+  pi-round-trip ext =
+      written-opens 2 offset refl (omega arith) two-bytes guid len a words g small below room k done v lent starts base mapped
+      (ap (λ (o : ℕ). extFault v k len o) there-is ∙ ext)
+
+  pub pi-refused : extFault v k len offset ≡ true → openVolume v base ≡ opens (refused 112) zeroState
+  unfolding knownEdition
+  pi-refused ext =
+      written-refused 2 offset refl (omega arith) two-bytes guid len a words g small below room k done v lent starts base mapped
+      (ap (λ (o : ℕ). extFault v k len o) there-is ∙ ext)
 
 -- the words of a header that was written sum to 0 modulo 65,536
-pub written-sum-zero : (guid : List ℕ) (len a : ℕ) (words room : List ℕ) → length guid ≡ 16 → (k : ℕ)
-    → writeHeader guid len a words room .answer ≡ success (k ∷ []) → wordSum (take k (writeHeader guid len a words room .room)) % wordModulus ≡ 0
+pub written-sum-zero : (edition offset : ℕ) (guid : List ℕ) (len a : ℕ) (words room : List ℕ) → length guid ≡ 16 → (k : ℕ)
+    → writeHeader edition offset guid len a words room .answer ≡ success (k ∷ [])
+    → wordSum (take k (writeHeader edition offset guid len a words room .room)) % wordModulus ≡ 0
 unfolding writeHeader
-written-sum-zero guid len a words room g k done = go (firstRefusal (writeRefusals len a words (length room))) done
+written-sum-zero edition offset guid len a words room g k done = go (firstRefusal (writeRefusals edition len a words (length room))) done
   where
-    header : List ℕ
-    header = headerBytes guid len a words
+    header' : List ℕ
+    header' = headerBytes edition offset guid len a words
 
-    outcome : Option ℕ → HeaderWritten
-    outcome o = unlessRefused (λ n. wrote (refused n) room) o (wrote (success (length header ∷ [])) (header ++ drop (length header) room))
+    outcome' : Option ℕ → HeaderWritten
+    outcome' o = unlessRefused (λ n. wrote (refused n) room) o (wrote (success (length header' ∷ [])) (header' ++ drop (length header') room))
 
-    go : (o : Option ℕ) → outcome o .answer ≡ success (k ∷ []) → wordSum (take k (outcome o .room)) % wordModulus ≡ 0
+    go : (o : Option ℕ) → outcome' o .answer ≡ success (k ∷ []) → wordSum (take k (outcome' o .room)) % wordModulus ≡ 0
     go (some m) w = let z : _≡_ {A = ℕ} 0 1 = cc in absurd (omega arith)
     go none w =
-        let e : length header ≡ k = cc in
-        rw (take-at header (drop (length header) room) k e) (sum-zero guid len a words g)
+        let e : length header' ≡ k = cc in
+        rw (take-at header' (drop (length header') room) k e) (sum-zero edition offset guid len a words g)

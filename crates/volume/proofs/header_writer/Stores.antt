@@ -14,7 +14,7 @@ use Rattle.numbers.specs.LittleEndian.{leBytes}
 use Rattle.numbers.proofs.LittleEndian.{length-leBytes}
 use Rattle.volume.specs.BlockMap.{headerLength}
 use Rattle.volume.specs.Header.{signature, wordSum}
-use Rattle.volume.specs.HeaderWriter.{wordsBytes, headerFront, headerWith, headerBytes, reservedAndRevision, checksum, writeRefusals, wrote, writeHeader}
+use Rattle.volume.specs.HeaderWriter.{wordsBytes, headerFront, headerWith, headerBack, headerBytes, checksum, writeRefusals, wrote, writeHeader}
 
 -- the stores of map words from place i on: the word there and then the rest, or only what follows the map
 pub words-next : (m r z : List ℕ) (i : ℕ) → i < length m
@@ -36,22 +36,28 @@ pub words-end : (m r z : List ℕ) (at i : ℕ) → length m ≤ i → sets r at
 unfolding wordsBytes
 words-end m r z at i h = rw (drop-of-length-le m {i = i} h)
 
--- nine stores in a row, of the fields with 0 for the checksum, are the header's first 56 bytes
+-- eight stores in a row, of the fields with 0 for the checksum, are the header's first 52 bytes
 module _ (r guid : List ℕ) (len a h : ℕ) (sixteen : length guid ≡ 16) where
-  pub fields-stored : (r1 r2 r3 r4 r5 r6 r7 r8 r9 : List ℕ) → r1 ≡ sets r 0 (leBytes 8 0) → r2 ≡ sets r1 8 (leBytes 8 0) → r3 ≡ sets r2 16 guid
+  pub fields-stored : (r1 r2 r3 r4 r5 r6 r7 r8 : List ℕ) → r1 ≡ sets r 0 (leBytes 8 0) → r2 ≡ sets r1 8 (leBytes 8 0) → r3 ≡ sets r2 16 guid
       → r4 ≡ sets r3 32 (leBytes 8 len) → r5 ≡ sets r4 40 (leBytes 4 signature) → r6 ≡ sets r5 44 (leBytes 4 a) → r7 ≡ sets r6 48 (leBytes 2 h)
-      → r8 ≡ sets r7 50 (leBytes 2 0) → r9 ≡ sets r8 52 (leBytes 4 0x01000000)
-      → r9 ≡ sets r 0 (headerFront guid len a h ++ (leBytes 2 0 ++ reservedAndRevision))
+      → r8 ≡ sets r7 50 (leBytes 2 0)
+      → r8 ≡ sets r 0 (headerFront guid len a h ++ leBytes 2 0)
   unfolding headerFront leBytes
-  fields-stored r1 r2 r3 r4 r5 r6 r7 r8 r9 e1 e2 e3 e4 e5 e6 e7 e8 e9 =
+  fields-stored r1 r2 r3 r4 r5 r6 r7 r8 e1 e2 e3 e4 e5 e6 e7 e8 =
       let z : List ℕ = sets r 0 (replicate 16 0) in
       let x : List ℕ = leBytes 8 len ++ (leBytes 4 signature ++ (leBytes 4 a ++ leBytes 2 h)) in
-      let y : List ℕ = leBytes 2 0 ++ reservedAndRevision in
-      rw (e9, e8, e7, e6, e5, e4, e3, e2, e1)
+      let y : List ℕ = leBytes 2 0 in
+      rw (e8, e7, e6, e5, e4, e3, e2, e1)
       (sym
       (ap (λ (l : List ℕ). sets z 16 l) (append-assoc guid x y)
       ∙ sets-append guid (x ++ y) z 16
       ∙ ap (λ (k : ℕ). sets (sets z 16 guid) (16 + k) (x ++ y)) sixteen))
+
+-- and three more the 4 bytes behind them
+pub back-stored : (r : List ℕ) (edition offset : ℕ) (r1 r2 r3 : List ℕ) → r1 ≡ sets r 52 (leBytes 2 offset) → r2 ≡ sets r1 54 (leBytes 1 0)
+    → r3 ≡ sets r2 55 (leBytes 1 edition) → r3 ≡ sets r 52 (headerBack edition offset)
+unfolding headerBack leBytes
+back-stored r edition offset r1 r2 r3 e1 e2 e3 = rw (e3, e2, e1)
 
 -- ---- the header's length
 
@@ -64,37 +70,47 @@ pub length-front : (guid : List ℕ) (len a h : ℕ) → length guid ≡ 16 → 
 unfolding headerFront
 length-front guid len a h e = simp (length-append, length-replicate, length-leBytes, e)
 
-pub length-header : (sum : ℕ) (guid : List ℕ) (len a : ℕ) (words : List ℕ) → length guid ≡ 16 → length words % 2 ≡ 0
-    → length (headerWith sum guid len a words) ≡ 64 + 8 * (length words / 2)
+pub length-back : (edition offset : ℕ) → length (headerBack edition offset) ≡ 4
+unfolding headerBack
+length-back edition offset = simp (length-append, length-leBytes)
+
+pub length-header : (sum edition offset : ℕ) (guid : List ℕ) (len a : ℕ) (words : List ℕ) → length guid ≡ 16 → length words % 2 ≡ 0
+    → length (headerWith sum edition offset guid len a words) ≡ 64 + 8 * (length words / 2)
 unfolding headerWith
-length-header sum guid len a words e even =
-    simp (length-append, length-leBytes, length-front guid len a (headerLength (length words / 2)) e, length-wordsBytes) (omega arith)
+length-header sum edition offset guid len a words e even =
+    simp (length-append, length-leBytes, length-back, length-front guid len a (headerLength (length words / 2)) e, length-wordsBytes) (omega arith)
 
 -- ---- what the stores make
 
--- fields, then map: the header with 0 for its checksum, and the rest of the room
-pub header-stored : (r guid : List ℕ) (len a : ℕ) (words : List ℕ) → length guid ≡ 16 → length words % 2 ≡ 0 → 64 + 8 * (length words / 2) ≤ length r
-    → sets (sets r 0 (headerFront guid len a (headerLength (length words / 2)) ++ (leBytes 2 0 ++ reservedAndRevision))) 56 (wordsBytes words ++ replicate 8 0)
-    ≡ headerWith 0 guid len a words ++ drop (64 + 8 * (length words / 2)) r
+-- fields, what is behind them, then map: the header with 0 for its checksum, and the rest of the room
+pub header-stored : (r : List ℕ) (edition offset : ℕ) (guid : List ℕ) (len a : ℕ) (words : List ℕ) → length guid ≡ 16 → length words % 2 ≡ 0
+    → 64 + 8 * (length words / 2) ≤ length r
+    → sets (sets (sets r 0 (headerFront guid len a (headerLength (length words / 2)) ++ leBytes 2 0)) 52 (headerBack edition offset)) 56 (wordsBytes words ++ replicate 8 0)
+    ≡ headerWith 0 edition offset guid len a words ++ drop (64 + 8 * (length words / 2)) r
 unfolding headerWith
-header-stored r guid len a words e even fits =
+header-stored r edition offset guid len a words e even fits =
     let f : List ℕ = headerFront guid len a (headerLength (length words / 2)) in
-    let z : List ℕ = leBytes 2 0 ++ reservedAndRevision in
+    let z : List ℕ = leBytes 2 0 in
+    let y : List ℕ = headerBack edition offset in
     let m : List ℕ = wordsBytes words ++ replicate 8 0 in
-    let six : 0 + length (f ++ z) ≡ 56 = simp (length-append, length-leBytes, length-front guid len a (headerLength (length words / 2)) e) in
-    let whole = length-header 0 guid len a words e even in
-    sym (sets-append (f ++ z) m r 0 ∙ ap (λ (k : ℕ). sets (sets r 0 (f ++ z)) k m) six)
-    ∙ ap (λ (l : List ℕ). sets r 0 l) (append-assoc f z m ∙ ap (λ (l : List ℕ). f ++ l) (append-assoc (leBytes 2 0) reservedAndRevision m))
-    ∙ sets-front (headerWith 0 guid len a words) r (omega arith)
-    ∙ ap (λ (k : ℕ). headerWith 0 guid len a words ++ drop k r) whole
+    let fifty-two : 0 + length (f ++ z) ≡ 52 = simp (length-append, length-leBytes, length-front guid len a (headerLength (length words / 2)) e) in
+    let fifty-six : 52 + length y ≡ 56 = simp (length-back edition offset) in
+    let whole = length-header 0 edition offset guid len a words e even in
+    sym (sets-append (f ++ z) (y ++ m) r 0
+    ∙ ap (λ (k : ℕ). sets (sets r 0 (f ++ z)) k (y ++ m)) fifty-two
+    ∙ sets-append y m (sets r 0 (f ++ z)) 52
+    ∙ ap (λ (k : ℕ). sets (sets (sets r 0 (f ++ z)) 52 y) k m) fifty-six)
+    ∙ ap (λ (l : List ℕ). sets r 0 l) (append-assoc f z (y ++ m))
+    ∙ sets-front (headerWith 0 edition offset guid len a words) r (omega arith)
+    ∙ ap (λ (k : ℕ). headerWith 0 edition offset guid len a words ++ drop k r) whole
 
 -- then the checksum
-pub checksum-stored : (sum : ℕ) (guid : List ℕ) (len a : ℕ) (words rest : List ℕ) → length guid ≡ 16
-    → sets (headerWith 0 guid len a words ++ rest) 50 (leBytes 2 sum) ≡ headerWith sum guid len a words ++ rest
+pub checksum-stored : (sum edition offset : ℕ) (guid : List ℕ) (len a : ℕ) (words rest : List ℕ) → length guid ≡ 16
+    → sets (headerWith 0 edition offset guid len a words ++ rest) 50 (leBytes 2 sum) ≡ headerWith sum edition offset guid len a words ++ rest
 unfolding headerWith
-checksum-stored sum guid len a words rest e =
+checksum-stored sum edition offset guid len a words rest e =
     let f : List ℕ = headerFront guid len a (headerLength (length words / 2)) in
-    let b : List ℕ = reservedAndRevision ++ (wordsBytes words ++ replicate 8 0) in
+    let b : List ℕ = headerBack edition offset ++ (wordsBytes words ++ replicate 8 0) in
     let same : length (leBytes 2 0) ≡ length (leBytes 2 sum) = length-leBytes 2 0 ∙ sym (length-leBytes 2 sum) in
     let regroup : (x : List ℕ) → (f ++ (x ++ b)) ++ rest ≡ f ++ (x ++ (b ++ rest)) = λ x. append-assoc f (x ++ b) rest ∙ ap (λ (l : List ℕ). f ++ l) (append-assoc x b rest) in
     ap (λ (l : List ℕ). sets l 50 (leBytes 2 sum)) (regroup (leBytes 2 0))
@@ -104,16 +120,16 @@ checksum-stored sum guid len a words rest e =
 
 -- ---- the answers
 
-module _ (guid : List ℕ) (len a : ℕ) (words room : List ℕ) where
+module _ (edition offset : ℕ) (guid : List ℕ) (len a : ℕ) (words room : List ℕ) where
   -- a refusal leaves the room
-  pub write-refused : (n : ℕ) → firstRefusal (writeRefusals len a words (length room)) ≡ some n
-      → wrote (refused n) room ≡ writeHeader guid len a words room
+  pub write-refused : (n : ℕ) → firstRefusal (writeRefusals edition len a words (length room)) ≡ some n
+      → wrote (refused n) room ≡ writeHeader edition offset guid len a words room
   unfolding writeHeader
   write-refused n e = rw e
 
   -- success stores the header
-  pub write-done : length guid ≡ 16 → length words % 2 ≡ 0 → firstRefusal (writeRefusals len a words (length room)) ≡ none
-      → wrote (success (headerLength (length words / 2) ∷ [])) (headerBytes guid len a words ++ drop (headerLength (length words / 2)) room)
-      ≡ writeHeader guid len a words room
+  pub write-done : length guid ≡ 16 → length words % 2 ≡ 0 → firstRefusal (writeRefusals edition len a words (length room)) ≡ none
+      → wrote (success (headerLength (length words / 2) ∷ [])) (headerBytes edition offset guid len a words ++ drop (headerLength (length words / 2)) room)
+      ≡ writeHeader edition offset guid len a words room
   unfolding writeHeader headerBytes
-  write-done g even e = rw (e, length-header (checksum (wordSum (headerWith 0 guid len a words))) guid len a words g even)
+  write-done g even e = rw (e, length-header (checksum (wordSum (headerWith 0 edition offset guid len a words))) edition offset guid len a words g even)

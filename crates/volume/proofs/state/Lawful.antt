@@ -1,33 +1,37 @@
 -- What a lawful state is known to have: its entries, blocks and length keep the limits, and its blocks make up its length.
 use Prim.Native.Nat.{ℕ, _*_, _≤_}
 use mathlib.Core.Path.{_≡_}
-use mathlib.Core.Bool.{false, not, _||_, or-assoc, or-false}
+use mathlib.Core.Bool.{true, false, not, _||_, or-assoc, or-false}
 use native.Mathlib.Omega.{arith}
+use borrow.Author.Tests.{not-false}
 use lib.ListN.{take, drop}
 use Rattle.common.specs.Refusals.{any}
 use Rattle.common.proofs.Refusals.{any-passed}
-use Rattle.volume.specs.Attributes.{attributesFault, baseFault}
+use Rattle.volume.specs.Attributes.{knownEdition, attributesFault, baseFault}
 use Rattle.volume.specs.BlockMap.{maxEntries, maxBlocks, maxLength, blocks, bytes, hasZero, allZero, sizeFault}
 use Rattle.volume.specs.State.{mapOf, unlawful}
 use Rattle.volume.specs.declared.state.State.{State}
 use Rattle.volume.proofs.block_map.Words.{size-passed}
 
 pub record Lawful (st : State) : Type 0 where
+  pub edition : knownEdition (st .edition) ≡ true
   pub nonzero : hasZero (mapOf st) ≡ false
   pub entries : st .entries ≤ maxEntries
   pub blocks : blocks (mapOf st) ≤ maxBlocks
   pub length : st .length ≤ maxLength
   pub total : bytes (mapOf st) ≡ st .length
-  pub attributes : attributesFault (st .attributes) ≡ false
+  pub attributes : attributesFault (st .edition) (st .attributes) ≡ false
 
 pub lawful : (st : State) → unlawful st ≡ false → Lawful st
 unfolding unlawful
 lawful st e =
-    let a = any-passed (hasZero (mapOf st)) _ e in
+    let k = any-passed (not (knownEdition (st .edition))) _ e in
+    let a = any-passed (hasZero (mapOf st)) _ (k .1) in
     let b = any-passed (sizeFault (st .entries) (mapOf st) (st .length)) _ (a .1) in
-    let c = any-passed (attributesFault (st .attributes)) _ (b .1) in
+    let c = any-passed (attributesFault (st .edition) (st .attributes)) _ (b .1) in
     let s = size-passed (st .entries) (mapOf st) (st .length) (b .0) in
     record {
+      edition = not-false _ (k .0);
       nonzero = a .0;
       entries = s .few-entries;
       blocks = s .few-blocks;
@@ -36,11 +40,11 @@ lawful st e =
       attributes = c .0;
     }
 
--- rule 111 as a state's parts are tested: the map at once, by 106 and 107; then the attributes, the base and the words beyond the entries
+-- rule 111 as a state's parts are tested: the edition; the map at once, by 106 and 107; then the attributes, the base and the words beyond the entries
 pub unlawful-is : (st : State)
     → unlawful st
-    ≡ ((hasZero (mapOf st) || sizeFault (st .entries) (mapOf st) (st .length))
-    || (attributesFault (st .attributes) || (baseFault (st .attributes) (st .base) || not (allZero (drop (2 * st .entries) (st .map))))))
+    ≡ (not (knownEdition (st .edition)) || ((hasZero (mapOf st) || sizeFault (st .entries) (mapOf st) (st .length))
+    || (attributesFault (st .edition) (st .attributes) || (baseFault (st .attributes) (st .base) || not (allZero (drop (2 * st .entries) (st .map)))))))
 unfolding unlawful any
 unlawful-is st = rw (or-assoc, or-false)
 

@@ -1,13 +1,11 @@
 -- `block_service::service::set_attributes` meets its contract: each test is a row of the table.
 use mathlib.Core.Path.{_≡_, sym, _∙_}
-use mathlib.Core.Bool.{false, not, _&&_}
+use mathlib.Core.Bool.{false}
 use borrow.Author.Needs.{needs}
-use lib.Dec.{eqb}
 use Rattle.common.proofs.Refusals.{row-applies, row-passes, no-row}
-use Rattle.volume.specs.Attributes.{flag, lockStatus}
 use Rattle.volume.specs.State.{stateWith, unlawful}
 use Rattle.block_service.specs.Service.{setAttributes, settingsAnswer, bufferOf, refusals, perform, effect, withAttributes}
-use Rattle.block_service.specs.Settings.{changesFixed, settingRefusals}
+use Rattle.block_service.specs.Settings.{changesFixed, changesLocked, settingRefusals}
 use Rattle.block_service.proofs.service.Steps.{unlawful-step, refused-step, allowed-step}
 use Rattle.block_service.proofs.service.set_attributes.Statement.{statement}
 use Rattle.block_service.proofs.service.set_attributes.Tie as tie
@@ -35,13 +33,10 @@ abbrev start : tie.Else1 → tie.Start
 start c = entry (c .before)
 
 -- and what each said
-fixed : (c : tie.Else2) → changesFixed (start (lawfully c) .args .st .attributes) (start (lawfully c) .args .new) ≡ false
+fixed : (c : tie.Else2) → (let a = start (lawfully c) .args in changesFixed (a .st .edition) (a .st .attributes) (a .new)) ≡ false
 fixed c = sym (c .before .changes-fixed .ensures) ∙ c .if2 .left
 
-unlocked : (c : tie.Else3)
-    → (flag (start (lawfully (fixedly c)) .args .st .attributes) lockStatus
-    && not (eqb (start (lawfully (fixedly c)) .args .st .attributes) (start (lawfully (fixedly c)) .args .new)))
-    ≡ false
+unlocked : (c : tie.Else3) → (let a = start (lawfully (fixedly c)) .args in changesLocked (a .st .edition) (a .st .attributes) (a .new)) ≡ false
 unlocked c = sym (c .before .changes-locked .ensures) ∙ c .if3 .left
 
 unlawful-state-requires : tie.Need-unlawful-state-requires

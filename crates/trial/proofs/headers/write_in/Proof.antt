@@ -24,8 +24,35 @@ item-requires-2 c κs = search needs
 u32-at-requires : tie.Need-u32-at-requires
 u32-at-requires c κs = search needs
 
+item-requires-3 : tie.Need-item-requires-3
+item-requires-3 c κs = search needs
+
+u16-at-requires : tie.Need-u16-at-requires
+u16-at-requires c κs = search needs
+
 number-requires-2 : tie.Need-number-requires-2
 number-requires-2 c κs = search needs
+
+slice-aggregate-write-pi-header : tie.Need-slice-aggregate-write-pi-header
+slice-aggregate-write-pi-header c = sym (length-take-le _ _ (omega arith))
+
+slice-relend-prefix-write-pi-header : tie.Need-slice-relend-prefix-write-pi-header
+slice-relend-prefix-write-pi-header c = search needs
+
+slice-aggregate-write-pi-header-2 : tie.Need-slice-aggregate-write-pi-header-2
+slice-aggregate-write-pi-header-2 c = sym (length-take-le _ _ (omega arith))
+
+write-pi-header-requires : tie.Need-write-pi-header-requires
+write-pi-header-requires c κs = search needs
+
+same-length : tie.Need-same-length
+same-length c = search needs
+
+returns : tie.Need-returns
+returns c = search needs
+
+number-requires-3 : tie.Need-number-requires-3
+number-requires-3 c κs = search needs
 
 slice-aggregate-write-header : tie.Need-slice-aggregate-write-header
 slice-aggregate-write-header c = sym (length-take-le _ _ (omega arith))
@@ -38,30 +65,6 @@ slice-aggregate-write-header-2 c = sym (length-take-le _ _ (omega arith))
 
 write-header-requires : tie.Need-write-header-requires
 write-header-requires c κs = search needs
-
-enum-known-answer : tie.Need-enum-known-answer
-enum-known-answer c = search needs
-
-field-requires : tie.Need-field-requires
-field-requires c κs = search needs
-
-field-requires-2 : tie.Need-field-requires-2
-field-requires-2 c κs = search needs
-
-enum-known-answer-2 : tie.Need-enum-known-answer-2
-enum-known-answer-2 c = search needs
-
-cast-field : tie.Need-cast-field
-cast-field c = search needs
-
-field-requires-3 : tie.Need-field-requires-3
-field-requires-3 c κs = search needs
-
-same-length : tie.Need-same-length
-same-length c = search needs
-
-returns : tie.Need-returns
-returns c = search needs
 
 same-length-2 : tie.Need-same-length-2
 same-length-2 c = search needs
@@ -79,18 +82,19 @@ write-in-spec =
     least-requires-2
     item-requires-2
     u32-at-requires
+    item-requires-3
+    u16-at-requires
     number-requires-2
+    slice-aggregate-write-pi-header
+    slice-relend-prefix-write-pi-header
+    slice-aggregate-write-pi-header-2
+    write-pi-header-requires
+    same-length
+    returns
+    number-requires-3
     slice-aggregate-write-header
     slice-relend-prefix-write-header
     slice-aggregate-write-header-2
     write-header-requires
-    enum-known-answer
-    field-requires
-    field-requires-2
-    enum-known-answer-2
-    cast-field
-    field-requires-3
-    same-length
-    returns
     same-length-2
     returns-2)

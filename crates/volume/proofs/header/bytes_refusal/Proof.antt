@@ -1,6 +1,6 @@
 -- `volume::header::bytes_refusal` meets its contract: each return is the first row of the table whose test holds.
 use mathlib.Core.Path.{_≡_, sym, _∙_}
-use mathlib.Core.Bool.{true, false}
+use mathlib.Core.Bool.{true, false, not}
 use mathlib.Core.List.{List}
 use Prim.Native.Nat.{ℕ, _%_}
 use native.Mathlib.Omega.{arith}
@@ -11,7 +11,8 @@ use lib.Seq.{length-take-le}
 use lib.Dec.{eqb, ltb}
 use lib.ListN.{length, take}
 use Rattle.common.specs.Refusals.{firstRefusal}
-use Rattle.volume.specs.Header.{headerLengthAt, headerLengthFault, minHeader, openRefusals, refusalOf, revision, revisionAt, signature, signatureAt, wordModulus, wordSum}
+use Rattle.volume.specs.Attributes.{knownEdition}
+use Rattle.volume.specs.Header.{headerLengthAt, headerLengthFault, minHeader, openRefusals, refusalOf, revisionAt, signature, signatureAt, wordModulus, wordSum}
 use Rattle.volume.proofs.header.Fields.{header-length-passed}
 use Rattle.volume.proofs.header.bytes_refusal.Statement.{statement}
 use Rattle.volume.proofs.header.bytes_refusal.Tie as tie
@@ -21,7 +22,7 @@ abbrev one : tie.Else2 → tie.Else1
 one c = c .before .before
 
 abbrev two : tie.Else3 → tie.Else2
-two c = c .before .before
+two c = c .before .before .before
 
 abbrev three : tie.Else4 → tie.Else3
 three c = c .before .before .before
@@ -36,8 +37,11 @@ long c = le-ltb _ _ (c .if1 .left)
 signed : (c : tie.Else2) → eqb (signatureAt (bytes (one c))) signature ≡ true
 signed c = eq-eqb (signatureAt (bytes (one c))) signature (omega (arith, c .before .u32-at .ensures))
 
-revised : (c : tie.Else3) → eqb (revisionAt (bytes (one (two c)))) revision ≡ true
-revised c = eq-eqb (revisionAt (bytes (one (two c)))) revision (omega (arith, c .before .byte-at .ensures))
+known : (c : tie.After-edition-fault) → not (knownEdition (revisionAt (bytes (one (c .before .before))))) ≡ c .edition-fault .result
+known c = sym (rw (c .before .byte-at .ensures) at (c .edition-fault .ensures))
+
+revised : (c : tie.Else3) → not (knownEdition (revisionAt (bytes (one (two c))))) ≡ false
+revised c = known (c .before) ∙ c .if3 .left
 
 measured : (c : tie.Else4) → let s = bytes (one (two (three c))) in headerLengthFault (headerLengthAt s) (length s) ≡ false
 measured c = rw (c .before .before .u16-at .ensures) at (sym (c .before .header-length-fault .ensures) ∙ c .if4 .left)
@@ -62,11 +66,17 @@ returns-2 c = simp (long (c .before .before), ne-eqb (signatureAt (bytes (c .bef
 byte-at-requires : tie.Need-byte-at-requires
 byte-at-requires c κs = search needs
 
+cast-edition-fault : tie.Need-cast-edition-fault
+cast-edition-fault c = search needs
+
+edition-fault-requires : tie.Need-edition-fault-requires
+edition-fault-requires c κs = search needs
+
 returns-3 : tie.Need-returns-3
 unfolding refusalOf firstRefusal openRefusals
 returns-3 c =
-    let behind = c .before .before in
-    simp (long (one behind), signed behind, ne-eqb (revisionAt (bytes (one behind))) revision (λ e. omega (arith, c .before .byte-at .ensures)))
+    let behind = c .before .before .before in
+    simp (long (one behind), signed behind, known (c .before) ∙ c .if3 .taken)
 
 u16-at-requires : tie.Need-u16-at-requires
 u16-at-requires c κs = search needs
@@ -128,6 +138,8 @@ bytes-refusal-spec =
     u32-at-requires
     returns-2
     byte-at-requires
+    cast-edition-fault
+    edition-fault-requires
     returns-3
     u16-at-requires
     cast-header

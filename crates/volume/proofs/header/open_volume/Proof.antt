@@ -25,8 +25,11 @@ read-on c = sym (c .before .before .bytes-refusal .ensures) ∙ ap refusalOf (c 
 abbrev read : tie.After-fields-refusal → tie.After-read-map
 read c = c .before .before .before
 
+abbrev revised : tie.After-read-map → tie.After-byte-at
+revised c = c .before .before
+
 abbrev attributed : tie.After-read-map → tie.After-u32-at
-attributed c = c .before .before
+attributed c = revised c .before
 
 abbrev measured : tie.After-read-map → tie.After-u64-at
 measured c = attributed c .before
@@ -45,11 +48,11 @@ module _ (c : tie.After-fields-refusal) where
   abbrev base : ℕ
   base = begun (read c) .before .before .before .before .args .base
 
-  parts : stateWith (guidAt header) (measured (read c) .u64-at .result) (attributed (read c) .u32-at .result) base
+  parts : stateWith (guidAt header) (measured (read c) .u64-at .result) (attributed (read c) .u32-at .result) base (revised (read c) .byte-at .result)
       ((counted (read c) .u16-at .result - 64) / 8) (read c .read-map .last .1 .1 .0)
       ≡ stateAt header base
   parts =
-      state-parts header base (measured (read c) .u64-at .ensures) (attributed (read c) .u32-at .ensures) (ap entriesOf (counted (read c) .u16-at .ensures))
+      state-parts header base (measured (read c) .u64-at .ensures) (attributed (read c) .u32-at .ensures) (revised (read c) .byte-at .ensures) (ap entriesOf (counted (read c) .u16-at .ensures))
       (read c .read-map .ensures)
 
   judged : refusalOf (c .fields-refusal .result) ≡ firstRefusal (fieldsRefusals header (stateAt header base))
@@ -88,11 +91,17 @@ u64-at-requires c κs = search needs
 u32-at-requires : tie.Need-u32-at-requires
 u32-at-requires c κs = search needs
 
+byte-at-requires : tie.Need-byte-at-requires
+byte-at-requires c κs = search needs
+
+cast-edition : tie.Need-cast-edition
+cast-edition c = search needs
+
 slice-aggregate-read-map : tie.Need-slice-aggregate-read-map
 slice-aggregate-read-map c = search needs
 
 read-map-requires : tie.Need-read-map-requires
-read-map-requires c κs = let r = readable _ (read-on (c .before .before .before .before)) in (omega arith, omega arith)
+read-map-requires c κs = let r = readable _ (read-on (c .before .before .before .before .before)) in (omega arith, omega arith)
 
 slice-aggregate-fields-refusal : tie.Need-slice-aggregate-fields-refusal
 slice-aggregate-fields-refusal c = search needs
@@ -144,6 +153,8 @@ open-volume-spec =
     sub-entries
     u64-at-requires
     u32-at-requires
+    byte-at-requires
+    cast-edition
     slice-aggregate-read-map
     read-map-requires
     slice-aggregate-fields-refusal

@@ -1,4 +1,4 @@
--- `volume::header_writer::store_fields` meets its contract: nine runs of stores in a row are the header's first 56 bytes.
+-- `volume::header_writer::store_fields` meets its contract: eight runs of stores in a row are the header's first 52 bytes.
 use mathlib.Core.Path.{_≡_, _∙_}
 use borrow.Author.Needs.{needs}
 use denote.Ref.{now}
@@ -41,16 +41,10 @@ store-requires-6 c κs = search needs
 store-requires-7 : tie.Need-store-requires-7
 store-requires-7 c κs = search needs
 
-store-requires-8 : tie.Need-store-requires-8
-store-requires-8 c κs = search needs
-
 -- the places after each store, the last first, one from the next
-module _ (c : tie.After-room9) where
-  abbrev at8 : tie.After-store8
-  at8 = c .before
-
+module _ (c : tie.After-room8) where
   abbrev at7 : tie.After-store7
-  at7 = at8 .before .before .before .before
+  at7 = c .before
 
   abbrev at6 : tie.After-store6
   at6 = at7 .before .before .before .before
@@ -79,8 +73,7 @@ module _ (c : tie.After-room9) where
 same-length : tie.Need-same-length
 same-length c =
     let r = c .before in
-    at8 r .store8 .kept .0
-    ∙ at7 r .store7 .kept .0
+    at7 r .store7 .kept .0
     ∙ at6 r .store6 .kept .0
     ∙ at5 r .store5 .kept .0
     ∙ at4 r .store4 .kept .0
@@ -93,7 +86,7 @@ returns : tie.Need-returns
 returns c =
     let r = c .before in
     let a = start r .args in
-    fields-stored (now (a .room)) (a .t1) (a .len) (a .attributes) (a .header) (guid-length (start r)) _ _ _ _ _ _ _ _ _
+    fields-stored (now (a .room)) (a .t1) (a .len) (a .attributes) (a .header) (guid-length (start r)) _ _ _ _ _ _ _ _
     (at1 r .store .ensures)
     (at2 r .store2 .ensures)
     (guided r .store-bytes .ensures)
@@ -102,7 +95,6 @@ returns c =
     (at5 r .store5 .ensures)
     (at6 r .store6 .ensures)
     (at7 r .store7 .ensures)
-    (at8 r .store8 .ensures)
 
 pub store-fields-spec : {M : Type 1} → statement M
 store-fields-spec =
@@ -118,6 +110,5 @@ store-fields-spec =
     store-requires-5
     store-requires-6
     store-requires-7
-    store-requires-8
     same-length
     returns)

@@ -1,0 +1,64 @@
+// The extended header that edition 2 may have: rule 112.
+ghost use mathlib.Core.Path.{_≡_};
+ghost use Prim.Native.Nat.{_+_, _≤_, _<_, _^_};
+ghost use Rattle.volume.specs.BlockMap.{maxLength};
+ghost use Rattle.volume.specs.ExtendedHeader.{entriesFrom, extFault, faulty};
+
+// Where the size of an extended header stands, behind its name's GUID; where its entries start; and where an entry's type stands, behind its size.
+pub(crate) const EXT_SIZE: usize = 16;
+
+pub(crate) const EXT_ENTRIES: usize = 20;
+
+pub(crate) const EXT_TYPE: usize = 2;
+
+// The size and type of an entry.
+const SHORTEST_ENTRY: usize = 4;
+
+// Whether the extended header at an offset breaks rule 112, the header having `header` bytes and the volume `len`. Offset 0 is none.
+pub(crate) fn ext_fault(s: &[u8], header: usize, len: usize, offset: usize) -> bool
+    requires { ⌜ (offset < 2 ^ 16) ⌝ }
+    ensures { λ r. ⌜ r ≡ extFault (now (s .entry)) header len offset ⌝ }
+{
+    if offset == 0 {
+        return false;
+    }
+    if offset < header {
+        return true;
+    }
+    let from = offset + EXT_ENTRIES;
+    if len < from {
+        return true;
+    }
+    let size = numbers::u32_at(s, offset + EXT_SIZE) as usize;
+    if size < EXT_ENTRIES {
+        return true;
+    }
+    let end = offset + size;
+    if len < end {
+        return true;
+    }
+    entries_fault(s, from, end)
+}
+
+// Whether an entry from a place up to an end is under 4 bytes, cut or past the end. Each turn goes on by the entry's size.
+fn entries_fault(s: &[u8], from: usize, end: usize) -> bool
+    requires { ⌜ from ≤ end ⌝ }
+    ensures { λ r. ⌜ r ≡ faulty (entriesFrom (now (s .entry)) from end) ⌝ }
+{
+    let mut at = from;
+    while at < end {
+        let left = end - at;
+        if left < SHORTEST_ENTRY {
+            return true;
+        }
+        let size = numbers::u16_at(s, at) as usize;
+        if size < SHORTEST_ENTRY {
+            return true;
+        }
+        if left < size {
+            return true;
+        }
+        at += size;
+    }
+    false
+}
