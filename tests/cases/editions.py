@@ -20,9 +20,9 @@ def pi(map_words=A_MAP, **fields):
     return header(map_words, edition=2, **fields)
 
 
-def entry(size, kind=0x0102, body=None):
+def entry(size, entry_type=0x0102, body=None):
     """An entry that says this size; its bytes after the first four are zero unless told otherwise."""
-    return size.to_bytes(2, "little") + kind.to_bytes(2, "little") + (bytes(max(size - 4, 0)) if body is None else body)
+    return size.to_bytes(2, "little") + entry_type.to_bytes(2, "little") + (bytes(max(size - 4, 0)) if body is None else body)
 
 
 def extended(*entries, size=None, name=GUID):
@@ -131,11 +131,13 @@ def entry_cases():
 
 
 def order_cases():
-    """Each other fault together with one of 112's."""
+    """Each other fault together with one of 112's; not 103, since only revision 2 has an extended header."""
     for no in FAULTS:
-        yield opening("%d and 112 at once: %d" % (no, no), *broken(no, edition=2, offset=1))
+        if no != 103:
+            yield opening("%d and 112 at once: %d" % (no, no), *broken(no, edition=2, offset=1))
+            own, lent, base = broken(no, edition=2, offset=72)
+            yield opening("%d and an entry of size 0: %d" % (no, no), own + extended(entry(0)), lent, base)
     yield opening("109 and an extended header past the lent bytes: 109", pi(offset=1500), 1024)
-    yield opening("110 and an entry of size 0: 110", image(extended(entry(0))), 2048, 12)
     yield opening("mapped, base 8, and 112 alone: 112", pi(offset=1), 2048, 8)
     yield opening("not mapped, base 4, and 112 alone: 112", pi(offset=1, attributes=0x0A3F), 2048, 4)
     yield opening("edition 1, an extended header that would be 112", header(offset=72) + extended(entry(0)), 2048)

@@ -1,18 +1,31 @@
--- Edition 1 sets its settings as before request a (02). The definitions of that time stand here word for word, and the law says that of edition 1
--- today's table is the old one. The other calls ask the edition nothing but whether the state is lawful (`unlawful-as-before`, volume's FirstEdition).
-use Prim.Native.Nat.{ℕ, zero, suc, _*_, _/_, _%_, _^_}
+-- Edition 1 is served as before request a (02): every call on every state of edition 1 and every volume. The definitions of that time stand here word for word, each with ₁ behind
+-- its name, over volume's State₁; what does not name the state is today's own, unchanged since.
+use Prim.Native.Nat.{ℕ, zero, suc, _+_, _*_, _/_, _%_, _^_}
 use mathlib.Core.Bool.{Bool, true, false, not, _&&_, or-false}
-use mathlib.Core.List.{List, [], _∷_}
+use mathlib.Core.List.{List, [], _∷_, _++_}
+use mathlib.Core.Option.{Option, none, some}
 use mathlib.Core.Path.{_≡_, refl, sym, _∙_}
 use native.Mathlib.Nat.{div-one, div-div-eq-div-mul}
 use native.Mathlib.Omega.{arith}
 use borrow.Author.Tests.{eq-eqb, eqb-true, eqb-false, not-false}
 use lib.Bits.{bitOr}
-use lib.Dec.{eqb}
-use Rattle.common.specs.Refusals.{any, Row, row}
+use lib.Dec.{eqb, leb, ltb}
+use lib.ListN.{length, take, drop}
+use Rattle.common.specs.Answers.{Answer, refused, success}
+use Rattle.common.specs.Lists.{edit}
+use Rattle.common.specs.Refusals.{any, Row, row, firstRefusal, unlessRefused}
 use Rattle.common.proofs.Bits.{bit, masked-bit, bits-masked, above-mask}
 use Rattle.common.proofs.Refusals.{any-passed}
-use Rattle.volume.specs.Attributes.{flag, readDisabledCap, readEnabledCap, readStatus, writeDisabledCap, writeEnabledCap, writeStatus, lockCap, lockStatus}
+use Rattle.volume.specs.Attributes.{flag, readDisabledCap, readEnabledCap, readStatus, writeDisabledCap, writeEnabledCap, writeStatus, lockCap, lockStatus, memoryMapped}
+use Rattle.volume.specs.BlockMap.{blocks}
+use Rattle.volume.specs.State.{mapOf, stateWith}
+use Rattle.volume.specs.declared.state.State.{State}
+use Rattle.volume.proofs.FirstEdition.{State₁, stateWith₁, mapOf₁, unlawful₁, withoutEdition, unlawful-as-before}
+use Rattle.block_service.specs.Access.{countMoved, ByteChange, changedByte, writeChange}
+use Rattle.block_service.specs.Blocks.{place, startOf, lengthOf, consecutiveBlocks}
+use Rattle.block_service.specs.Erase.{goodList, eraseChange}
+use Rattle.block_service.specs.Service.{Call, getAttributes, setAttributes, getPhysicalAddress, getBlockSize, read, write, eraseBlocks, lentRefusals, refusals}
+use Rattle.block_service.specs.Service.{reply, moveAnswer, effect, withAttributes, decide, Result, perform, bufferOf, step}
 use Rattle.block_service.specs.Settings.{statusBits, changesFixed, changesLocked, raises, clears, lacksCapability, settingRefusals}
 
 abbrev changesFixed₁ : ℕ → ℕ → Bool
@@ -120,3 +133,103 @@ module _ (old new : ℕ) where
 pub settings-as-before : (old new : ℕ) → settingRefusals 1 old new ≡ settingRefusals₁ old new
 unfolding settingRefusals changesLocked lacksCapability any
 settings-as-before old new = rw (fixed-as-before old new, or-false (flag old lockStatus && not (eqb old new)))
+
+-- ---- the seven calls
+
+abbrev lentRefusals₁ : State₁ → ℕ → ℕ → List Row
+lentRefusals₁ st n status =
+    row (unlawful₁ st) 111
+    ∷ row (ltb n (st .length)) 5
+    ∷ row (not (flag (st .attributes) status)) 15
+    ∷ []
+
+abbrev refusals₁ : State₁ → ℕ → Call → List Row
+refusals₁ st n getAttributes = row (unlawful₁ st) 111 ∷ []
+refusals₁ st n (setAttributes new) = row (unlawful₁ st) 111 ∷ settingRefusals₁ (st .attributes) new
+refusals₁ st n getPhysicalAddress = row (unlawful₁ st) 111 ∷ row (not (flag (st .attributes) memoryMapped)) 3 ∷ []
+refusals₁ st n (getBlockSize block) = row (unlawful₁ st) 111 ∷ row (leb (blocks (mapOf₁ st)) block) 2 ∷ []
+refusals₁ st n (read block offset buffer) = lentRefusals₁ st n readStatus ++ (row (leb (blocks (mapOf₁ st)) block) 2 ∷ [])
+refusals₁ st n (write block offset new) = lentRefusals₁ st n writeStatus ++ (row (leb (blocks (mapOf₁ st)) block) 2 ∷ [])
+refusals₁ st n (eraseBlocks list) = lentRefusals₁ st n writeStatus ++ (row (not (goodList (blocks (mapOf₁ st)) list)) 2 ∷ [])
+
+pub data Effect₁ : Type 0 where
+  reply₁ : Answer → Effect₁
+  setTo₁ : State₁ → Answer → Effect₁
+  copyOut₁ : ℕ → ℕ → Answer → Effect₁
+  change₁ : (ℕ → ByteChange) → Answer → Effect₁
+
+abbrev withAttributes₁ : State₁ → ℕ → State₁
+withAttributes₁ st a = stateWith₁ (st .guid) (st .length) a (st .base) (st .entries) (st .map)
+
+abbrev effect₁ : State₁ → Call → Effect₁
+effect₁ st getAttributes = reply₁ (success (st .attributes ∷ []))
+effect₁ st (setAttributes new) = setTo₁ (withAttributes₁ st new) (success (new ∷ []))
+effect₁ st getPhysicalAddress = reply₁ (success (st .base ∷ []))
+effect₁ st (getBlockSize block) = reply₁ (success (lengthOf (place (mapOf₁ st) block) ∷ consecutiveBlocks (mapOf₁ st) block ∷ []))
+effect₁ st (read block offset buffer) =
+    let found = place (mapOf₁ st) block in
+    let count = countMoved (lengthOf found) offset (length buffer) in
+    copyOut₁ (startOf found + offset) count (moveAnswer count (length buffer))
+effect₁ st (write block offset new) =
+    let found = place (mapOf₁ st) block in
+    let count = countMoved (lengthOf found) offset (length new) in
+    change₁ (writeChange (startOf found + offset) count new) (moveAnswer count (length new))
+effect₁ st (eraseBlocks list) = change₁ (eraseChange (mapOf₁ st) list) (success [])
+
+abbrev decide₁ : State₁ → ℕ → Call → Effect₁
+decide₁ st n call = unlessRefused (λ number. reply₁ (refused number)) (firstRefusal (refusals₁ st n call)) (effect₁ st call)
+
+pub record Result₁ : Type 0 where
+  pub answer : Answer
+  pub state : State₁
+  pub volume : List ℕ
+  pub buffer : List ℕ
+
+abbrev result₁ : Answer → State₁ → List ℕ → List ℕ → Result₁
+result₁ answer st volume buffer = record { answer = answer; state = st; volume = volume; buffer = buffer }
+
+abbrev perform₁ : State₁ → List ℕ → List ℕ → Effect₁ → Result₁
+perform₁ st volume buffer (reply₁ a) = result₁ a st volume buffer
+perform₁ st volume buffer (setTo₁ next a) = result₁ a next volume buffer
+perform₁ st volume buffer (copyOut₁ at count a) = result₁ a st volume (take count (drop at volume) ++ drop count buffer)
+perform₁ st volume buffer (change₁ f a) =
+    result₁ a st (edit (λ i old. changedByte (st .attributes) (f i) old) 0 volume) buffer
+
+abbrev pub step₁ : State₁ → List ℕ → Call → Result₁
+step₁ st volume call = perform₁ st volume (bufferOf call) (decide₁ st (length volume) call)
+
+-- the tables are the old ones
+refusals-as-before : (st : State) (n : ℕ) (c : Call) → st .edition ≡ 1 → refusals st n c ≡ refusals₁ (withoutEdition st) n c
+unfolding refusals lentRefusals mapOf
+refusals-as-before st n getAttributes e = rw (unlawful-as-before st e)
+refusals-as-before st n (setAttributes new) e = rw (unlawful-as-before st e, e, settings-as-before (st .attributes) new)
+refusals-as-before st n getPhysicalAddress e = rw (unlawful-as-before st e)
+refusals-as-before st n (getBlockSize b) e = rw (unlawful-as-before st e)
+refusals-as-before st n (read b o buffer) e = rw (unlawful-as-before st e)
+refusals-as-before st n (write b o new) e = rw (unlawful-as-before st e)
+refusals-as-before st n (eraseBlocks list) e = rw (unlawful-as-before st e)
+
+-- a result without the edition of its state
+abbrev pub resultWithout : Result → Result₁
+resultWithout r = result₁ (r .answer) (withoutEdition (r .state)) (r .volume) (r .buffer)
+
+-- a refused call leaves, and an allowed one does, what it did
+effect-as-before : (st : State) (v buffer : List ℕ) (c : Call) → resultWithout (perform st v buffer (effect st c)) ≡ perform₁ (withoutEdition st) v buffer (effect₁ (withoutEdition st) c)
+unfolding perform effect mapOf withAttributes stateWith
+effect-as-before st v buffer getAttributes = refl
+effect-as-before st v buffer (setAttributes new) = refl
+effect-as-before st v buffer getPhysicalAddress = refl
+effect-as-before st v buffer (getBlockSize b) = refl
+effect-as-before st v buffer (read b o data') = refl
+effect-as-before st v buffer (write b o new) = refl
+effect-as-before st v buffer (eraseBlocks list) = refl
+
+pub step-as-before : (st : State) (v : List ℕ) (c : Call) → st .edition ≡ 1 → resultWithout (step st v c) ≡ step₁ (withoutEdition st) v c
+unfolding step decide perform
+step-as-before st v c e = rw (refusals-as-before st (length v) c e) (go (firstRefusal (refusals₁ (withoutEdition st) (length v) c)))
+  where
+    go : (o : Option ℕ)
+        → resultWithout (perform st v (bufferOf c) (unlessRefused (λ n. reply (refused n)) o (effect st c)))
+        ≡ perform₁ (withoutEdition st) v (bufferOf c) (unlessRefused (λ n. reply₁ (refused n)) o (effect₁ (withoutEdition st) c))
+    go none = effect-as-before st v (bufferOf c) c
+    go (some n) = refl

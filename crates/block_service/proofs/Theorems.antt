@@ -2,12 +2,12 @@
 -- `step st v c` is the call c on the state st and the lent volume v; its result has the answer, and the state, the volume and the reader's buffer
 -- afterwards. The proofs are citations; the laws stand under the module of src/ that they serve.
 use Prim.Native.Nat.{ℕ, _+_, _-_, _*_, _/_, _%_, _^_, _≤_, _<_}
-use mathlib.Core.Bool.{true, false, not, _&&_}
+use mathlib.Core.Bool.{true, false}
 use mathlib.Core.List.{List, [], _∷_, _++_}
 use mathlib.Core.Option.{some}
 use mathlib.Core.Path.{_≡_, sym}
 use lib.Bits.{bitAnd, bitOr}
-use lib.Dec.{T, eqb}
+use lib.Dec.{T}
 use lib.ListN.{length, getD, take, drop}
 use Rattle.common.specs.Answers.{refused, success}
 use Rattle.common.specs.Lists.{edit}

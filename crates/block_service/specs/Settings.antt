@@ -1,7 +1,7 @@
 -- Setting the settings (document 01, "Set settings"), by the header's edition (document 02, a). The settings are the state's attributes.
 use Prim.Native.Nat.{ℕ, _+_}
 use mathlib.Core.Bool.{Bool, not, cond, _&&_, _||_}
-use mathlib.Core.List.{List, [], _∷_, _++_}
+use mathlib.Core.List.{List, [], _∷_}
 use lib.Bits.{bitOr}
 use lib.Dec.{eqb}
 use Rattle.common.specs.Refusals.{any, Row, row}

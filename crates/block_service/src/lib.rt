@@ -1,4 +1,4 @@
-// Framework firmware volumes (version 0.9), the upper layer: the block service, over the state that opening a volume answers
+// Firmware volumes of two editions, the upper layer: the block service, over the state that opening a volume answers
 // and the volume bytes that the caller lends.
 //
 // Every public function answers every input and has no `requires`. A refusal carries document 01's number,

@@ -18,6 +18,11 @@ use volume::attributes::WRITE_LOCK_STATUS;
 use volume::attributes::WRITE_STATUS;
 use volume::attributes::is_set;
 
+// The bits that may change in edition 1, the read status, the write status and the lock; in edition 2 the locks of the first two too.
+const STATUS_BITS: u32 = 0xA4;
+
+const PI_STATUS_BITS: u32 = 0xA0A4;
+
 // Whether the new settings change a bit other than the edition's statuses.
 pub(crate) fn changes_fixed(edition: u32, old: u32, new: u32) -> bool
     ensures { λ r. ⌜ r ≡ changesFixed edition old new ⌝ }
@@ -26,14 +31,14 @@ pub(crate) fn changes_fixed(edition: u32, old: u32, new: u32) -> bool
     (old | statuses) != (new | statuses)
 }
 
-// The bits that may change: the read status, the write status and the lock; in edition 2 also the locks of the two.
+// The bits that may change in an edition.
 fn status_bits(edition: u32) -> u32
     ensures { λ r. ⌜ r ≡ statusBits edition ⌝ }
 {
     if edition == 2 {
-        return 0xA0A4;
+        return PI_STATUS_BITS;
     }
-    0xA4
+    STATUS_BITS
 }
 
 // Whether the new settings change what a lock keeps: any bit, where the settings are locked; in edition 2 a status that is locked,

@@ -96,3 +96,18 @@ module _ (a b mask : ℕ) where
           let s = and-bit k other mask in
           let z : bit (bitAnd other mask) k ≡ 0 = ap (λ (x : ℕ). bit x k) apart ∙ zero-bit k in
           omega arith
+
+-- ---- numbers that have no bit in common
+
+pub apart-bit : (a b : ℕ) → bitAnd a b ≡ 0 → (k : ℕ) → bit b k ≡ 1 → bit a k ≡ 0
+apart-bit a b e k on =
+    let p = and-bit k a b in
+    let z : bit (bitAnd a b) k ≡ 0 = ap (λ (x : ℕ). bit x k) e ∙ zero-bit k in
+    omega arith
+
+pub bits-apart : (a b : ℕ) → ((k : ℕ) → bit b k ≡ 1 → bit a k ≡ 0) → bitAnd a b ≡ 0
+bits-apart a b h = bits-same (bitAnd a b) 0 (λ k. each k (bit b k) refl ∙ sym (zero-bit k))
+  where
+    each : (k m : ℕ) → bit b k ≡ m → bit (bitAnd a b) k ≡ 0
+    each k zero e = let p = and-bit k a b in omega arith
+    each k (suc m) e = let p = and-bit k a b in let one : bit b k ≡ 1 = omega arith in let z = h k one in omega arith

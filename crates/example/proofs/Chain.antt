@@ -12,7 +12,7 @@ use Rattle.block_service.specs.Service.{Result, erasedAnswer, result, step, era
 use Rattle.block_service.specs.declared.service.Erased.{Erased}
 use Rattle.block_service.specs.declared.service.Erased.the-variants as Erased
 use Rattle.block_service.proofs.service.Steps.{refused-changes-nothing}
-use Rattle.example.specs.Mask.{masked, unlessRefusedBy, putMask}
+use Rattle.example.specs.Mask.{masked, putMask}
 
 module _ (v mask : List ℕ) (base block : ℕ) (opening : Opening) (st : State) (o : opens (openingAnswer opening) st ≡ openVolume v base) where
   -- opening is refused

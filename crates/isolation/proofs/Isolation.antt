@@ -22,7 +22,7 @@ use Rattle.volume.specs.State.{mapOf, unlawful}
 use Rattle.block_service.specs.declared.blocks.Place.{Place}
 use Rattle.block_service.specs.declared.blocks.Place.the-variants.{At, Missing}
 use Rattle.volume.specs.declared.state.State.{State}
-use Rattle.isolation.specs.Runs.{run, seen, isSuccess, isMoved, namesBlock, erased, Alike, NoEarlyRead, NeverErased, Isolated}
+use Rattle.isolation.specs.Runs.{run, isSuccess, isMoved, namesBlock, erased, Alike, NoEarlyRead, NeverErased, Isolated}
 use Rattle.block_service.proofs.blocks.Places.{inBlock-blockAt, inBlock-of-bounds, in-one-block, found-start, found-end, place-lost}
 use Rattle.block_service.proofs.service.Kept.{map-kept, edition-kept, lawful-kept, read-lock-kept, write-lock-kept}
 use Rattle.volume.proofs.header.Reading.{opened-lawful}

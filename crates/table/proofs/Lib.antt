@@ -1,2 +1,3 @@
+pub mod Editions
 pub mod Instances
 pub mod Table

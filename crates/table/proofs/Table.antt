@@ -49,7 +49,7 @@ unfoldable pub stream : List ℕ
 stream = 0x05 ∷ 0x00 ∷ 0x00 ∷ 0x19 ∷ 0xAA ∷ 0x00 ∷ 0x00 ∷ 0x00 ∷ 0x04 ∷ 0x00 ∷ 0x00 ∷ 0x19 ∷ []
 
 pub record Table : Type 0 where
-  -- A opens: GUID zero, length 2,048, attributes 0x0E3F, base 0, one entry of 4 blocks of 512
+  -- A opens: GUID zero, length 2,048, attributes 0x0E3F, base 0, edition 1, one entry of 4 blocks of 512
   pub P1 : openVolume sampleA 0 ≡ opened (stateOf (replicate 16 0) 2048 0x0E3F 0 1 1 (4 ∷ 512 ∷ []))
   -- A with checksum C1 57 gives 105
   pub P2 : openVolume badSum 0 ≡ opens (refused 105) zeroState

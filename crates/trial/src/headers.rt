@@ -181,11 +181,15 @@ fn entry_slice(case: &[u8], volume: &mut [u8]) {
 
 fn entry_fields(answer: ExtEntry) {
     match answer {
-        ExtEntry::Success { first, size, kind } => {
+        ExtEntry::Success {
+            first,
+            size,
+            entry_type,
+        } => {
             field(0);
             field(first as u64);
             field(size as u64);
-            field(kind as u64);
+            field(entry_type as u64);
         }
         ExtEntry::Refused(no) => field(no as u64),
     }

@@ -8,11 +8,12 @@ use mathlib.Core.Option.{none, some}
 use lib.ListN.{length, getD, take}
 use Rattle.common.specs.Answers.{refused, success}
 use Rattle.common.specs.Refusals.{firstRefusal}
+use Rattle.common.proofs.Bits.{bit}
 use Rattle.numbers.specs.LittleEndian.{le}
-use Rattle.volume.specs.Attributes.{knownEdition, baseFault}
+use Rattle.volume.specs.Attributes.{knownEdition, attributesFault, baseFault}
 use Rattle.volume.specs.BlockMap.{sizeFault}
-use Rattle.volume.specs.ExtendedHeader.{minExtHeader, extOffset, extSizeAt, extEntryAt, entryFault, before, entriesFrom, extFault}
-use Rattle.volume.specs.ExtendedEntry.{entriesOf, extEntry}
+use Rattle.volume.specs.ExtendedHeader.{minExtHeader, extOffset, extSizeAt, extEntryAt, entryFault, entryBefore, entriesFrom, Entry, entriesFaulty, extFault}
+use Rattle.volume.specs.ExtendedEntry.{entriesListed, extEntriesOf, extEntry}
 use Rattle.volume.specs.State.{stateOf, unlawful, zeroState}
 use Rattle.volume.specs.Header.{lengthAt, revisionAt, headerLengthAt, wordSum, wordModulus, runningSums, stateAt, openRefusals, opens, opened, openVolume}
 use Rattle.volume.specs.HeaderWriter.{pairs, writeRefusals, wrote, writeHeader}
@@ -73,18 +74,31 @@ pub opened-edition : (v : List ℕ) (base : ℕ) → openVolume v base .answer �
     → (openVolume v base .state .edition ≡ revisionAt v) × (knownEdition (revisionAt v) ≡ true)
 opened-edition = Reading.opened-edition
 
+-- ---- attributes (02, a)
+
+-- "0x7FE00100 must be zero" in edition 2, and nothing else: attributes pass 108 exactly where they have no bit of that number
+pub reserved-zero : (a : ℕ) → attributesFault 2 a ≡ false → (k : ℕ) → bit 0x7FE00100 k ≡ 1 → bit a k ≡ 0
+reserved-zero = Reading.reserved-zero
+
+pub others-free : (a : ℕ) → ((k : ℕ) → bit 0x7FE00100 k ≡ 1 → bit a k ≡ 0) → attributesFault 2 a ≡ false
+others-free = Reading.others-free
+
 -- ---- the extended header (02, a)
 
 -- 112 in words: an extended header that passes "starts" behind the main one, does not "leave the volume", has a size of 20 or more, and no entry at fault
 pub extended : (v : List ℕ) (h len o : ℕ) → (o ≡ 0 → ⊥) → extFault v h len o ≡ false → Extended v h len o
 extended v h len o some-offset = Entries.extended v h len o some-offset
 
+-- and one that is so passes
+pub extended-passes : (v : List ℕ) (h len o : ℕ) → (o ≡ 0 → ⊥) → Extended v h len o → extFault v h len o ≡ false
+extended-passes v h len o some-offset = Entries.extended-passes v h len o some-offset
+
 -- "0 for none": then 112 is never due, as in edition 1, whose offset is 0 whatever bytes 52 and 53 hold
 pub no-offset : (v : List ℕ) (h len : ℕ) → extFault v h len 0 ≡ false
 no-offset = Entries.none-due
 
-pub first-offset : (v : List ℕ) (edition : ℕ) → (edition ≡ 2 → ⊥) → extOffset edition v ≡ 0
-first-offset = Entries.first-offset
+pub reserved-offset : (v : List ℕ) (edition : ℕ) → (edition ≡ 2 → ⊥) → extOffset edition v ≡ 0
+reserved-offset = Entries.reserved-offset
 
 -- where opening succeeds 112 is not due, against the volume's length
 pub opened-extended : (v : List ℕ) (base : ℕ) → openVolume v base .answer ≡ success []
@@ -101,8 +115,15 @@ entries-fault = Entries.entries-fault
 
 -- and one that is not stands before those from its end on
 pub entries-next : (s : List ℕ) (at end : ℕ) → (at ≡ end → ⊥) → entryFault s at end ≡ false
-    → entriesFrom s at end ≡ before (extEntryAt s at) (entriesFrom s (at + le 2 s at) end)
+    → entriesFrom s at end ≡ entryBefore (extEntryAt s at) (entriesFrom s (at + le 2 s at) end)
 entries-next = Entries.entries-next
+
+-- so the entries from a byte on are those that stand in a row from there to the end, and none is at fault exactly where there is such a row
+pub entries-listed : (s : List ℕ) (at end : ℕ) → entriesFaulty (entriesFrom s at end) ≡ false → InRow s at end (entriesListed (entriesFrom s at end))
+entries-listed = Numbered.entries-listed
+
+pub row-listed : (s : List ℕ) (at end : ℕ) (entries : List Entry) → InRow s at end entries → entriesFrom s at end ≡ some entries
+row-listed = Numbered.row-listed
 
 -- the listing: opening's refusal at base 0 is answered as it is
 pub entry-refused : (s : List ℕ) (n k : ℕ) → openVolume s 0 .answer ≡ refused k → extEntry s n ≡ refused k
@@ -113,11 +134,11 @@ pub entry-none : (s : List ℕ) → openVolume s 0 .answer ≡ success [] → (n
 entry-none = Numbered.none-listed
 
 -- it succeeds exactly for the numbers below the number of entries
-pub entry-below : (s : List ℕ) → openVolume s 0 .answer ≡ success [] → (n : ℕ) → n < length (entriesOf s)
+pub entry-below : (s : List ℕ) → openVolume s 0 .answer ≡ success [] → (n : ℕ) → n < length (extEntriesOf s)
     → (f : ℕ) × (z : ℕ) × (t : ℕ) × (extEntry s n ≡ success (f ∷ z ∷ t ∷ []))
 entry-below = Numbered.listed-below
 
-pub entry-past : (s : List ℕ) → openVolume s 0 .answer ≡ success [] → (n : ℕ) → length (entriesOf s) ≤ n → extEntry s n ≡ refused 14
+pub entry-past : (s : List ℕ) → openVolume s 0 .answer ≡ success [] → (n : ℕ) → length (extEntriesOf s) ≤ n → extEntry s n ≡ refused 14
 entry-past = Numbered.listed-past
 
 -- what it answers lies inside the extended header, behind its own 20 bytes, and inside the volume; size and type are those that stand there
@@ -131,7 +152,7 @@ entry-after = Numbered.entry-after
 
 -- all of them stand in a row: the first behind the 20 bytes, each next where the one before ends, and the last ends with the extended header
 pub entries-row : (s : List ℕ) → openVolume s 0 .answer ≡ success [] → (extOffset (revisionAt s) s ≡ 0 → ⊥)
-    → let o = extOffset (revisionAt s) s in InRow s (o + minExtHeader) (o + extSizeAt s o) (entriesOf s)
+    → let o = extOffset (revisionAt s) s in InRow s (o + minExtHeader) (o + extSizeAt s o) (extEntriesOf s)
 entries-row = Numbered.entries-row
 
 -- ---- the word sum, line by line (02, d: "one 16-bit accumulator that wraps at each addition")
@@ -187,12 +208,18 @@ pub round-trip : (guid : List ℕ) (len a : ℕ) (words room : List ℕ) → len
     → (base : ℕ) → baseFault a base ≡ false → openVolume v base ≡ opened (stateOf guid len a base 1 (pairs words) words)
 round-trip = RoundTrip.round-trip
 
--- of the second writer (02, a): "its header opens where 112 isn't due", to the same values and edition 2; with offset 0 it never is (`no-offset`)
+-- of the second writer (02, a): "its header opens where 112 isn't due", to the same values and edition 2; with offset 0 it never is
 pub pi-round-trip : (offset : ℕ) → offset < 2 ^ 16 → (guid : List ℕ) (len a : ℕ) (words room : List ℕ) → length guid ≡ 16 → a < 2 ^ 32
     → ((i : ℕ) → getD words i 0 < 2 ^ 32) → (k : ℕ) → writeHeader 2 offset guid len a words room .answer ≡ success (k ∷ [])
     → (v : List ℕ) → len ≤ length v → take k v ≡ take k (writeHeader 2 offset guid len a words room .room)
     → (base : ℕ) → baseFault a base ≡ false → extFault v k len offset ≡ false → openVolume v base ≡ opened (stateOf guid len a base 2 (pairs words) words)
 pi-round-trip = RoundTrip.pi-round-trip
+
+pub pi-round-trip-none : (guid : List ℕ) (len a : ℕ) (words room : List ℕ) → length guid ≡ 16 → a < 2 ^ 32
+    → ((i : ℕ) → getD words i 0 < 2 ^ 32) → (k : ℕ) → writeHeader 2 0 guid len a words room .answer ≡ success (k ∷ [])
+    → (v : List ℕ) → len ≤ length v → take k v ≡ take k (writeHeader 2 0 guid len a words room .room)
+    → (base : ℕ) → baseFault a base ≡ false → openVolume v base ≡ opened (stateOf guid len a base 2 (pairs words) words)
+pi-round-trip-none = RoundTrip.pi-round-trip-none
 
 -- and where it is due, that is what opening answers
 pub pi-refused : (offset : ℕ) → offset < 2 ^ 16 → (guid : List ℕ) (len a : ℕ) (words room : List ℕ) → length guid ≡ 16 → a < 2 ^ 32

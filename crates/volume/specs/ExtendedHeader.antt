@@ -41,16 +41,16 @@ abbrev pub entryFault : List ℕ → ℕ → ℕ → Bool
 entryFault s at end = any (ltb end (at + minExtEntry) ∷ ltb (le 2 s at) minExtEntry ∷ ltb end (at + le 2 s at) ∷ [])
 
 -- an entry before those that follow it, where they are good
-unfoldable pub before : Entry → Option (List Entry) → Option (List Entry)
-before e none = none
-before e (some rest) = some (e ∷ rest)
+unfoldable pub entryBefore : Entry → Option (List Entry) → Option (List Entry)
+entryBefore e none = none
+entryBefore e (some rest) = some (e ∷ rest)
 
 -- the entries from byte `at` up to byte `end`, each starting where the one before ends; none where one is at fault. As many steps are allowed as there
 -- are bytes, and an entry has four; the laws without steps are `entries-end`, `entries-next` and `entries-fault` (proofs/Theorems)
 unfoldable pub entriesIn : ℕ → List ℕ → ℕ → ℕ → Option (List Entry)
 entriesIn zero s at end = cond (eqb at end) (some []) none
 entriesIn (suc steps) s at end =
-    let later = before (extEntryAt s at) (entriesIn steps s (at + le 2 s at) end) in
+    let later = entryBefore (extEntryAt s at) (entriesIn steps s (at + le 2 s at) end) in
     cond (eqb at end) (some []) (cond (entryFault s at end) none later)
 
 unfoldable pub entriesFrom : List ℕ → ℕ → ℕ → Option (List Entry)
@@ -61,9 +61,9 @@ abbrev pub extEntries : List ℕ → ℕ → Option (List Entry)
 extEntries s o = entriesFrom s (o + minExtHeader) (o + extSizeAt s o)
 
 -- some entry is at fault
-unfoldable pub faulty : Option (List Entry) → Bool
-faulty none = true
-faulty (some entries) = false
+unfoldable pub entriesFaulty : Option (List Entry) → Bool
+entriesFaulty none = true
+entriesFaulty (some entries) = false
 
 -- 112, of a header of h bytes and a volume of `len`: "an extended header that starts inside the main one, leaves the volume, has a size under 20, or
 -- holds an entry under 4 bytes, cut or past its end". Offset 0 is no extended header
@@ -75,5 +75,5 @@ extFault s h len o =
     ∷ ltb len (o + minExtHeader)
     ∷ ltb (extSizeAt s o) minExtHeader
     ∷ ltb len (o + extSizeAt s o)
-    ∷ faulty (extEntries s o)
+    ∷ entriesFaulty (extEntries s o)
     ∷ [])

@@ -1,20 +1,22 @@
 // The entries of an extended header, one at a time.
 ghost use mathlib.Core.Path.{_≡_};
-ghost use Prim.Native.Nat.{_≤_};
-ghost use lib.ListN.{length};
-ghost use Rattle.volume.specs.ExtendedHeader.{entriesFrom, faulty};
-ghost use Rattle.volume.specs.ExtendedEntry.{entryAnswer, entryOf, extEntry, listed};
+ghost use Rattle.volume.specs.ExtendedHeader.{entriesFrom, entriesFaulty};
+ghost use Rattle.volume.specs.ExtendedEntry.{entriesListed, entryAnswer, entryOf, extEntry};
 ghost use mathlib.Core.Bool.{false};
 use crate::extended_header::EXT_ENTRIES;
+use crate::extended_header::EXT_HEADER_OFFSET;
 use crate::extended_header::EXT_SIZE;
 use crate::extended_header::EXT_TYPE;
-use crate::header::EXT_HEADER_OFFSET;
 use crate::header::Opening;
 use crate::header::open_volume;
 
 // An entry: its first byte in the volume, its size and its type. Or the refusal's number: opening's, or 14.
 pub enum ExtEntry {
-    Success { first: usize, size: u16, kind: u16 },
+    Success {
+        first: usize,
+        size: u16,
+        entry_type: u16,
+    },
     Refused(u16),
 }
 
@@ -41,8 +43,8 @@ pub fn ext_entry(volume: &[u8], number: u64) -> ExtEntry
 
 // The entry of this number among those from a place up to an end, none of which is at fault.
 fn entry_from(s: &[u8], from: usize, end: usize, number: u64) -> ExtEntry
-    requires { ⌜ faulty (entriesFrom (now s) from end) ≡ false ⌝ }
-    ensures { λ r. ⌜ entryAnswer r ≡ entryOf (listed (entriesFrom (now (s .entry)) from end)) number ⌝ }
+    requires { ⌜ entriesFaulty (entriesFrom (now s) from end) ≡ false ⌝ }
+    ensures { λ r. ⌜ entryAnswer r ≡ entryOf (entriesListed (entriesFrom (now (s .entry)) from end)) number ⌝ }
 {
     let mut at = from;
     let mut left = number;
@@ -52,7 +54,7 @@ fn entry_from(s: &[u8], from: usize, end: usize, number: u64) -> ExtEntry
             return ExtEntry::Success {
                 first: at,
                 size,
-                kind: numbers::u16_at(s, at + EXT_TYPE),
+                entry_type: numbers::u16_at(s, at + EXT_TYPE),
             };
         }
         left -= 1;

@@ -1,10 +1,10 @@
 // The volume header: opening a volume.
 ghost use mathlib.Core.Path.{_≡_};
-ghost use mathlib.Core.List.{List, _++_};
+ghost use mathlib.Core.List.{List, [], _∷_, _++_};
 ghost use Prim.Native.Nat.{ℕ, _+_, _*_, _%_, _≤_};
 ghost use lib.ListN.{length, take, drop};
 ghost use Rattle.common.specs.Answers.{refused};
-ghost use Rattle.common.specs.Refusals.{firstRefusal};
+ghost use Rattle.common.specs.Refusals.{firstRefusal, row};
 ghost use Rattle.volume.specs.Header.{headerLengthAt, headerLengthFault, mapStart, openRefusals, openVolume, openingAnswer, opens, refusalOf, wordModulus, wordSum, wordsAt};
 ghost use Rattle.volume.specs.BlockMap.{entryLength};
 ghost use Rattle.volume.specs.State.{stateWith, zeroState};
@@ -35,8 +35,6 @@ pub(crate) const ATTRIBUTES: usize = 44;
 pub(crate) const HEADER_LENGTH: usize = 48;
 
 pub(crate) const CHECKSUM: usize = 50;
-
-pub(crate) const EXT_HEADER_OFFSET: usize = 52;
 
 pub(crate) const RESERVED: usize = 54;
 
@@ -151,14 +149,19 @@ fn fields_refusal(
     if (s.len() as u64) < len {
         return Opening::Refused(109);
     }
-    if base_fault(attributes, base) {
+    let mapped = base_fault(attributes, base);
+    let extended = ext_fault(s, edition, closing + ENTRY_LENGTH, len as usize);
+    last_refusal(mapped, extended)
+}
+
+// The table's last two rows.
+fn last_refusal(mapped: bool, extended: bool) -> Opening
+    ensures { λ r. ⌜ refusalOf r ≡ firstRefusal (row mapped 110 ∷ row extended 112 ∷ []) ⌝ }
+{
+    if mapped {
         return Opening::Refused(110);
     }
-    if edition != 2 {
-        return Opening::Success;
-    }
-    let offset = numbers::u16_at(s, EXT_HEADER_OFFSET) as usize;
-    if ext_fault(s, closing + ENTRY_LENGTH, len as usize, offset) {
+    if extended {
         return Opening::Refused(112);
     }
     Opening::Success

@@ -1,7 +1,7 @@
-// Firmware volumes, of the Framework (version 0.9) and of its second edition (Platform Initialization), the lower layer: opening a volume,
-// writing a volume header, the entries of an extended header, and the state that opening answers. The block service over that state is the crate `block_service`.
+// Firmware volumes of two editions, the Framework's (version 0.9, header revision 1) and Platform Initialization's (revision 2), the lower layer: opening
+// a volume, writing a volume header, the entries of an extended header, and the state that opening answers. The block service over that state is the crate `block_service`.
 //
-// Every public function answers every input and has no `requires`. A refusal carries document 01's number,
+// Every public function answers every input and has no `requires`. A refusal carries the number of document 01 or 02,
 // and changes no lent byte.
 pub mod attributes;
 pub mod block_map;

@@ -17,8 +17,8 @@ pub struct State {
     pub guid: [u8; 16],
     pub length: u64,
     pub attributes: u32,
-    pub base: u64,
     pub edition: u32,
+    pub base: u64,
     pub entries: usize,
     pub map: [u32; 64],
 }

@@ -3,7 +3,7 @@ use Prim.Native.Nat.{ℕ, _/_, _%_, _≤_, _<_}
 use mathlib.Core.Bool.{Bool, true, false, not, cond, _&&_, _||_, true≢false}
 use mathlib.Core.List.{List, [], _∷_}
 use mathlib.Core.Option.{Option, none, some}
-use mathlib.Core.Path.{_≡_, refl, sym, ap, subst, _∙_}
+use mathlib.Core.Path.{_≡_, refl, sym, ap, subst}
 use native.Mathlib.Omega.{arith}
 use borrow.Author.Tests.{leb-false, eqb-true, not-false}
 use lib.Bits.{bitOr}
@@ -202,21 +202,20 @@ module _ (st : State) (v : List ℕ) (c : Call) (two : st .edition ≡ 2) where
   abbrev Kept : ℕ → ℕ → State → Type 0
   Kept lock status s = (flag (s .attributes) lock ≡ true) × (flag (s .attributes) status ≡ flag (st .attributes) status)
 
+  module _ (lock status : ℕ) (held : (new : ℕ) → changesLocked (st .edition) (st .attributes) new ≡ false → breaksLock (st .attributes) new lock status ≡ false) where
+    lock-kept : flag (st .attributes) lock ≡ true → Kept lock status (step st v c .state)
+    unfolding withAttributes stateWith
+    lock-kept on =
+        state-cases (Kept lock status) st v c (on, refl)
+        (λ new e. unbroken (st .attributes) new lock status (held new (set-passed st (length v) new e .unlocked)) on)
+
   pub read-lock-kept : flag (st .attributes) readLockStatus ≡ true
       → (flag (step st v c .state .attributes) readLockStatus ≡ true) × (flag (step st v c .state .attributes) readStatus ≡ flag (st .attributes) readStatus)
-  unfolding withAttributes stateWith
-  read-lock-kept on =
-      state-cases (Kept readLockStatus readStatus) st v c (on, refl)
-      (λ new e.
-      unbroken (st .attributes) new readLockStatus readStatus (locks-passed (st .edition) (st .attributes) new two (set-passed st (length v) new e .unlocked) .0) on)
+  read-lock-kept = lock-kept readLockStatus readStatus (λ new e. locks-passed (st .edition) (st .attributes) new two e .0)
 
   pub write-lock-kept : flag (st .attributes) writeLockStatus ≡ true
       → (flag (step st v c .state .attributes) writeLockStatus ≡ true) × (flag (step st v c .state .attributes) writeStatus ≡ flag (st .attributes) writeStatus)
-  unfolding withAttributes stateWith
-  write-lock-kept on =
-      state-cases (Kept writeLockStatus writeStatus) st v c (on, refl)
-      (λ new e.
-      unbroken (st .attributes) new writeLockStatus writeStatus (locks-passed (st .edition) (st .attributes) new two (set-passed st (length v) new e .unlocked) .1) on)
+  write-lock-kept = lock-kept writeLockStatus writeStatus (λ new e. locks-passed (st .edition) (st .attributes) new two e .1)
 
 -- in both editions a state whose settings are locked stays as it is
 pub locked-kept : (st : State) (v : List ℕ) (c : Call) → flag (st .attributes) lockStatus ≡ true → step st v c .state ≡ st

@@ -23,7 +23,7 @@ use Rattle.volume.specs.HeaderWriter.{pairs, wordsBytes, headerFront, he
 use Rattle.volume.proofs.block_map.Words.{Sized, size-passed}
 use Rattle.volume.proofs.header.Sums.{wordSum-append, wordSum-two}
 use Rattle.volume.proofs.header_writer.Stores.{length-wordsBytes, length-front, length-back, length-header}
-use Rattle.volume.proofs.extended_header.Entries.{no-offset}
+use Rattle.volume.proofs.extended_header.Entries.{none-due, no-offset}
 use Rattle.volume.proofs.header.Reading.{Holds, opens-to, refused-112}
 
 -- ---- the sum
@@ -353,6 +353,14 @@ module _ (offset : ℕ) (two-bytes : offset < 2 ^ 16) (guid : List ℕ) (len a :
   pi-refused ext =
       written-refused 2 offset refl (omega arith) two-bytes guid len a words g small below room k done v lent starts base mapped
       (ap (λ (o : ℕ). extFault v k len o) there-is ∙ ext)
+
+-- with offset 0 it never is
+pub pi-round-trip-none : (guid : List ℕ) (len a : ℕ) (words room : List ℕ) → length guid ≡ 16 → a < 2 ^ 32 → ((i : ℕ) → getD words i 0 < 2 ^ 32)
+    → (k : ℕ) → writeHeader 2 0 guid len a words room .answer ≡ success (k ∷ [])
+    → (v : List ℕ) → len ≤ length v → take k v ≡ take k (writeHeader 2 0 guid len a words room .room)
+    → (base : ℕ) → baseFault a base ≡ false → openVolume v base ≡ opened (stateOf guid len a base 2 (pairs words) words)
+pi-round-trip-none guid len a words room g small below k done v lent starts base mapped =
+    pi-round-trip 0 (omega arith) guid len a words room g small below k done v lent starts base mapped (none-due v k len)
 
 -- the words of a header that was written sum to 0 modulo 65,536
 pub written-sum-zero : (edition offset : ℕ) (guid : List ℕ) (len a : ℕ) (words room : List ℕ) → length guid ≡ 16 → (k : ℕ)

@@ -1,13 +1,13 @@
 -- `volume::extended_entry::entry_from` meets its contract: the entry asked among all is the one of the number left among those left.
-use Prim.Native.Nat.{ℕ, _+_, _-_, _≤_}
+use Prim.Native.Nat.{ℕ, _-_, _≤_}
 use mathlib.Core.Bool.{false}
 use mathlib.Core.List.{List}
-use mathlib.Core.Path.{_≡_, refl, sym, ap, _∙_}
+use mathlib.Core.Path.{_≡_, refl, sym, _∙_}
 use native.Mathlib.Omega.{arith}
 use borrow.Author.Needs.{needs}
 use denote.Ref.{now}
-use Rattle.volume.specs.ExtendedHeader.{entriesFrom, faulty}
-use Rattle.volume.specs.ExtendedEntry.{entryAnswer, entryOf, listed}
+use Rattle.volume.specs.ExtendedHeader.{entriesFrom, entriesFaulty}
+use Rattle.volume.specs.ExtendedEntry.{entryAnswer, entryOf, entriesListed}
 use Rattle.volume.proofs.extended_header.Entries.{Next, next, good-within}
 use Rattle.volume.proofs.extended_entry.Numbered.{first-asked, later-asked, none-asked}
 use Rattle.volume.proofs.extended_entry.entry_from.Statement.{statement}
@@ -15,7 +15,7 @@ use Rattle.volume.proofs.extended_entry.entry_from.Tie as tie
 
 abbrev Inv-loop : tie.InvT-loop
 Inv-loop s from end number at₀ left₀ at left =
-    (at ≤ end) × (faulty (entriesFrom s at end) ≡ false) × (entryOf (listed (entriesFrom s from end)) number ≡ entryOf (listed (entriesFrom s at end)) left)
+    (at ≤ end) × (entriesFaulty (entriesFrom s at end) ≡ false) × (entryOf (entriesListed (entriesFrom s from end)) number ≡ entryOf (entriesListed (entriesFrom s at end)) left)
 
 abbrev μ-loop : tie.MeasureT-loop
 μ-loop s from end number at₀ left₀ at left = end - at
@@ -33,7 +33,7 @@ here c = next _ _ _ (c .loop-test .taken) (c .before .loop .inv .1)
 loop-holds : tie.Need-loop-holds Inv-loop μ-loop
 loop-holds c =
     let a = c .before .args in
-    let ok : faulty (entriesFrom (now (a .s)) (a .from) (a .end)) ≡ false = search needs in
+    let ok : entriesFaulty (entriesFrom (now (a .s)) (a .from) (a .end)) ≡ false = search needs in
     (good-within (now (a .s)) (a .from) (a .end) ok, ok, refl)
 
 u16-at-requires : tie.Need-u16-at-requires Inv-loop μ-loop
@@ -53,7 +53,7 @@ returns c =
     let inside = sized .before in
     let l = inside .before in
     rw (sized .u16-at .ensures, c .u16-at2 .ensures)
-    (sym (l .loop .inv .2 ∙ first-asked (bytes l) (l .loop .at) (start l .args .end) (l .loop .left) (here inside) (zero .if1 .taken)))
+    (sym (l .loop .inv .2 ∙ first-asked (bytes l) (l .loop .at) (start l .args .end) (l .loop .left) _ (here inside) (zero .if1 .taken) (omega arith)))
 
 sub-left : tie.Need-sub-left Inv-loop μ-loop
 sub-left c = search needs

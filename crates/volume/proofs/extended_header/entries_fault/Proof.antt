@@ -4,13 +4,13 @@ use mathlib.Core.Path.{_≡_, refl, sym, ap, _∙_}
 use native.Mathlib.Omega.{arith}
 use borrow.Author.Needs.{needs}
 use denote.Ref.{now}
-use Rattle.volume.specs.ExtendedHeader.{entriesFrom, faulty}
+use Rattle.volume.specs.ExtendedHeader.{entriesFrom, entriesFaulty}
 use Rattle.volume.proofs.extended_header.Entries.{cut-faulty, small-faulty, past-faulty, next-faulty, end-faulty}
 use Rattle.volume.proofs.extended_header.entries_fault.Statement.{statement}
 use Rattle.volume.proofs.extended_header.entries_fault.Tie as tie
 
 abbrev Inv-loop : tie.InvT-loop
-Inv-loop s from end at₀ at = (at ≤ end) × (faulty (entriesFrom s from end) ≡ faulty (entriesFrom s at end))
+Inv-loop s from end at₀ at = (at ≤ end) × (entriesFaulty (entriesFrom s from end) ≡ entriesFaulty (entriesFrom s at end))
 
 abbrev μ-loop : tie.MeasureT-loop
 μ-loop s from end at₀ at = end - at
@@ -66,7 +66,7 @@ loop-again c =
       search needs,
       l .loop .inv .1
           ∙ next-faulty (now (start l .args .s)) (l .loop .at) (start l .args .end) (inside .loop-test .taken) (omega arith) (omega arith) (omega arith)
-          ∙ ap (λ (x : ℕ). faulty (entriesFrom (now (start l .args .s)) (l .loop .at + x) (start l .args .end))) (sym size),
+          ∙ ap (λ (x : ℕ). entriesFaulty (entriesFrom (now (start l .args .s)) (l .loop .at + x) (start l .args .end))) (sym size),
     )
 
 returns-4 : tie.Need-returns-4 Inv-loop μ-loop

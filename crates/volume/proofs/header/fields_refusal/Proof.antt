@@ -1,16 +1,15 @@
 -- `volume::header::fields_refusal` meets its contract: each return is the first row of the table whose test holds.
 use Prim.Native.Nat.{ℕ, _+_, _-_, _*_}
-use mathlib.Core.Path.{_≡_, refl, sym, ap, _∙_}
-use mathlib.Core.Bool.{Bool, false}
-use mathlib.Core.List.{List, [], _∷_}
+use mathlib.Core.Path.{_≡_, sym, ap, _∙_}
+use mathlib.Core.Bool.{false}
+use mathlib.Core.List.{List}
 use native.Mathlib.Omega.{arith}
 use borrow.Author.Tests.{eq-eqb, ne-eqb, lt-ltb, le-ltb}
 use borrow.Author.Needs.{needs}
 use denote.Ref.{now}
-use lib.ListN.{take, drop}
+use lib.ListN.{take}
 use lib.Seq.{length-take-le}
-use Rattle.common.specs.Refusals.{row, firstRefusal}
-use Rattle.common.proofs.Refusals.{row-applies, row-passes, no-row}
+use Rattle.common.specs.Refusals.{firstRefusal}
 use Rattle.numbers.specs.LittleEndian.{le}
 use Rattle.volume.specs.Attributes.{attributesFault}
 use Rattle.volume.specs.BlockMap.{hasZero, sizeFault}
@@ -18,7 +17,6 @@ use Rattle.volume.specs.ExtendedHeader.{extOffset, extFault}
 use Rattle.volume.specs.State.{stateWith, mapOf}
 use Rattle.volume.specs.Header.{headerLengthAt, openRefusals, mapFault, refusalOf}
 use Rattle.volume.specs.declared.state.State.{State}
-use Rattle.volume.proofs.extended_header.Entries.{no-offset}
 use Rattle.volume.proofs.header.fields_refusal.Statement.{statement}
 use Rattle.volume.proofs.header.fields_refusal.Tie as tie
 
@@ -124,81 +122,42 @@ returns-5 c guid =
 base-fault-requires : tie.Need-base-fault-requires
 base-fault-requires c κs = search needs
 
-returns-6 : tie.Need-returns-6
-unfolding refusalOf firstRefusal openRefusals mapOf stateWith
-returns-6 c guid =
-    let long = c .before .before in
-    let behind = long .before in
-    simp (
-      mapped (two (three behind)) guid,
-      sized (three behind),
-      allowed behind,
-      le-ltb _ _ (long .if5 .left),
-      sym (c .before .base-fault .ensures) ∙ c .if6 .taken,
-    )
-
--- behind 110 the last row decides
-abbrev four : tie.Else6 → tie.Else4
-four c = c .before .before .before
-
-abbrev ext : tie.Else6 → Bool
-ext c =
-    let before = one (two (three (four c))) in
-    let a = start before .args in
-    extFault (bytes before) (headerLengthAt (bytes before)) (a .len) (extOffset (a .edition) (bytes before))
-
-last : (c : tie.Else6) (guid : List ℕ)
-    → let before = one (two (three (four c))) in firstRefusal (drop 5 (openRefusals (bytes before) (state before guid))) ≡ firstRefusal (row (ext c) 112 ∷ [])
-unfolding firstRefusal openRefusals mapOf stateWith
-last c guid =
-    let long = c .before .before in
-    simp (
-      mapped (two (three (four c))) guid,
-      sized (three (four c)),
-      allowed (four c),
-      le-ltb _ _ (long .if5 .left),
-      sym (c .before .base-fault .ensures) ∙ c .if6 .left,
-    )
-
-returns-7 : tie.Need-returns-7
-unfolding refusalOf extOffset
-returns-7 c guid =
-    let behind = c .before in
-    let other = one (two (three (four behind))) in
-    let none-there : ext behind ≡ false =
-    rw (ne-eqb (start other .args .edition) 2 (c .if7 .taken)) (sym (no-offset (bytes other) (headerLengthAt (bytes other)) (start other .args .len) refl)) in
-    sym (last behind guid ∙ row-passes _ _ _ _ none-there no-row)
-
-u16-at-requires-2 : tie.Need-u16-at-requires-2
-u16-at-requires-2 c κs = search needs
-
-cast-offset : tie.Need-cast-offset
-cast-offset c = search needs
-
 add-ext-fault : tie.Need-add-ext-fault
 add-ext-fault c = search needs
 
 ext-fault-requires : tie.Need-ext-fault-requires
 ext-fault-requires c κs = search needs
 
--- what the last test said
-told : (c : tie.After-ext-fault) → c .ext-fault .result ≡ ext (c .before .before .before)
-unfolding extOffset
+last-refusal-requires : tie.Need-last-refusal-requires
+last-refusal-requires c κs = search needs
+
+-- what the test of the extended header said
+told : (c : tie.After-ext-fault)
+    → let before = one (two (three (c .before .before .before))) in
+    let a = start before .args in
+    c .ext-fault .result ≡ extFault (bytes before) (headerLengthAt (bytes before)) (a .len) (extOffset (a .edition) (bytes before))
 told c =
-    let behind = c .before .before .before in
-    let before = one (two (three (four behind))) in
-    let s = bytes before in
-    let header : before .before .before .before .u16-at .result - 8 + 8 ≡ headerLengthAt s = omega (arith, before .before .before .before .u16-at .ensures) in
-    (rw (header, c .before .u16-at2 .ensures) at (c .ext-fault .ensures))
-    ∙ ap (λ (edition : ℕ). extFault s (headerLengthAt s) (start before .args .len) (extOffset edition s)) (sym (c .before .before .if7 .left))
+    let before = one (two (three (c .before .before .before))) in
+    let a = start before .args in
+    c .ext-fault .ensures
+    ∙ ap (λ (h : ℕ). extFault (bytes before) h (a .len) (extOffset (a .edition) (bytes before))) (omega (arith, before .before .before .before .u16-at .ensures))
 
-returns-8 : tie.Need-returns-8
-unfolding refusalOf
-returns-8 c guid = let behind = c .before .before .before .before in sym (last behind guid ∙ row-applies _ _ _ (sym (told (c .before)) ∙ c .if8 .taken))
-
-returns-9 : tie.Need-returns-9
-unfolding refusalOf
-returns-9 c guid = let behind = c .before .before .before .before in sym (last behind guid ∙ row-passes _ _ _ _ (sym (told (c .before)) ∙ c .if8 .left) no-row)
+-- behind 109 the last two rows decide
+returns-6 : tie.Need-returns-6
+unfolding firstRefusal openRefusals mapOf stateWith
+returns-6 c guid =
+    let extended = c .before in
+    let long = extended .before .before in
+    let behind = long .before in
+    c .last-refusal .ensures
+    ∙ simp (
+      mapped (two (three behind)) guid,
+      sized (three behind),
+      allowed behind,
+      le-ltb _ _ (long .if5 .left),
+      extended .before .base-fault .ensures,
+      told extended,
+    )
 
 pub fields-refusal-spec : {M : Type 1} → statement M
 fields-refusal-spec =
@@ -220,11 +179,7 @@ fields-refusal-spec =
     returns-4
     returns-5
     base-fault-requires
-    returns-6
-    returns-7
-    u16-at-requires-2
-    cast-offset
     add-ext-fault
     ext-fault-requires
-    returns-8
-    returns-9)
+    last-refusal-requires
+    returns-6)

@@ -1,6 +1,6 @@
 -- `volume::state::unlawful_state` meets its contract: each test is one of rule 111's.
 use Prim.Native.Nat.{_*_, _-_}
-use mathlib.Core.Bool.{true, not, or-true}
+use mathlib.Core.Bool.{not, or-true}
 use mathlib.Core.Path.{_≡_, sym, ap, _∙_}
 use native.Mathlib.Omega.{arith}
 use borrow.Author.Needs.{needs}
