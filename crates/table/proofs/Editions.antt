@@ -71,15 +71,15 @@ pub record Editions : Type 0 where
   pub no-capability : Sets (statePI 0x0E3F) 0x2E3F 2 []
   pub foreign-first : Sets (statePI 0x7E3F) 0x7F3B 2 []
 
-computing : Unit {0}
+unfoldable pub computing : Unit {0}
 unfolding openVolume stateAt stateOf stateWith zeroState wordsAt wordSum openRefusals headerLengthFault mapFault firstRefusal any le numberOf valuesOf knownEdition attributesFault baseFault blocks bytes hasZero allZero sizeFault mapOf unlawful
 computing = tt
 
-extending : Unit {0}
+unfoldable pub extending : Unit {0}
 unfolding extOffset entryBefore entriesIn entriesFrom entriesFaulty extFault entriesListed extEntriesOf entryOf extEntry
 extending = tt
 
-setting : Unit {0}
+unfoldable pub setting : Unit {0}
 unfolding refusals settingRefusals statusBits changesFixed raises clears breaksLock changesLocked lacksCapability effect decide withAttributes perform bufferOf step run
 setting = tt
 

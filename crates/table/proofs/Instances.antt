@@ -29,13 +29,13 @@ use Rattle.table.specs.SampleA.{headerA, sampleA}
 use Rattle.isolation.proofs.Isolation.{demand-3}
 
 -- the hypothesis on reads, call by call: a set loses the blocks that a call erased, and a read in what is left is refused
-unfoldable ReadsAllowed : (ℕ → Type 0) → State → List ℕ → List Call → Type 0
+unfoldable pub ReadsAllowed : (ℕ → Type 0) → State → List ℕ → List Call → Type 0
 ReadsAllowed D st v [] = Unit {0}
 ReadsAllowed D st v (c ∷ cs) =
     ((b o : ℕ) (buffer : List ℕ) → c ≡ read b o buffer → D b → T (isMoved (step st v (read b o buffer) .answer)) → ⊥)
     × ReadsAllowed (λ b. D b × T (not (namesBlock c b && isSuccess (step st v c .answer)))) (step st v c .state) (step st v c .volume) cs
 
-allowed : (D : ℕ → Type 0) (st : State) (v : List ℕ) (cs : List Call) → ReadsAllowed D st v cs → NoEarlyRead D st v cs
+pub allowed : (D : ℕ → Type 0) (st : State) (v : List ℕ) (cs : List Call) → ReadsAllowed D st v cs → NoEarlyRead D st v cs
 unfolding ReadsAllowed NoEarlyRead run erased
 allowed D st v [] k [] after b o buffer e d m = absurd (let z : _≡_ {A = ℕ} 0 1 = cc in omega arith)
 allowed D st v [] k (x ∷ before) after b o buffer e d m = absurd (let z : _≡_ {A = ℕ} 0 1 = cc in omega arith)

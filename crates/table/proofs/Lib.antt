@@ -1,3 +1,4 @@
 pub mod Editions
 pub mod Instances
+pub mod SecondEdition
 pub mod Table
