@@ -1,5 +1,5 @@
--- Edition 2 by computation (document 02, a), beside document 01's table: a sample volume with an extended header is opened, its entries are entriesListed, its statuses are
--- locked, and it is opened again with one byte changed; each row gives what the definitions that the contracts cite compute.
+-- Edition 2 by computation (document 02, a), beside document 01's table: a sample volume with an extended header is opened, its entries are listed, its statuses are
+-- locked, and it is opened again with a few bytes changed; each row gives what the definitions that the contracts cite compute.
 use Prim.Native.Nat.{ℕ, _+_, _-_}
 use mathlib.Core.List.{List, [], _∷_}
 use mathlib.Core.Path.{_≡_, refl}

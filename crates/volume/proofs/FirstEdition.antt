@@ -126,7 +126,7 @@ rows-as-before s base other = go (eqb (revisionAt s) 1) refl
     go true e = let r = eqb-true (revisionAt s) 1 e in rw (r, none-due s (headerLengthAt s) (lengthAt s))
     go false e = rw (e, ne-eqb (revisionAt s) 2 other)
 
--- the answer and the state are as before; a state that is answered with success has edition 1 beside it
+-- the answer and the state are as before
 pub opening-as-before : (s : List ℕ) (base : ℕ) → (revisionAt s ≡ 2 → ⊥)
     → (openVolume s base .answer ≡ openVolume₁ s base .answer) × (withoutEdition (openVolume s base .state) ≡ openVolume₁ s base .state)
 unfolding openVolume stateAt zeroState stateOf stateWith
@@ -140,6 +140,7 @@ opening-as-before s base other = rw (rows-as-before s base other) (go (firstRefu
     go none = (refl, refl)
     go (some n) = (refl, refl)
 
+-- and a state that is answered with success has edition 1 beside it
 pub opened-first : (s : List ℕ) (base : ℕ) → openVolume s base .answer ≡ success [] → (revisionAt s ≡ 2 → ⊥) → openVolume s base .state .edition ≡ 1
 unfolding knownEdition
 opened-first s base h other =

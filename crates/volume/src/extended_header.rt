@@ -1,6 +1,6 @@
 // The extended header that edition 2 may have: rule 112.
 ghost use mathlib.Core.Path.{_≡_};
-ghost use Prim.Native.Nat.{_+_, _≤_, _<_, _^_};
+ghost use Prim.Native.Nat.{_≤_, _<_, _^_};
 ghost use Rattle.volume.specs.ExtendedHeader.{entriesFrom, extFault, extOffset, entriesFaulty};
 
 // Where a header of edition 2 has the offset of its extended header.
