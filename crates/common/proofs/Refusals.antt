@@ -1,7 +1,7 @@
 -- Laws of refusal tables: what a passed table says of its rows, and a table made of two.
 use Prim.Native.Nat.{ℕ}
-use mathlib.Core.Path.{_≡_, refl}
-use mathlib.Core.Bool.{Bool, true, false, cond, _||_, true≢false}
+use mathlib.Core.Path.{_≡_, refl, sym, ap, _∙_}
+use mathlib.Core.Bool.{Bool, true, false, cond, _||_, or-assoc, true≢false}
 use mathlib.Core.List.{List, [], _∷_, _++_}
 use mathlib.Core.Option.{Option, none, some, Option·some-ne-none, Option·none-ne-some}
 use Rattle.common.specs.Refusals.{Row, row, firstRefusal, any}
@@ -45,6 +45,12 @@ neither false b e = (refl, e)
 pub any-passed : (t : Bool) (rest : List Bool) → any (t ∷ rest) ≡ false → (t ≡ false) × (any rest ≡ false)
 unfolding any
 any-passed t rest e = neither t (any rest) e
+
+-- the tests of two lists
+pub any-append : (a b : List Bool) → any (a ++ b) ≡ (any a || any b)
+unfolding any
+any-append [] b = refl
+any-append (t ∷ rest) b = ap (λ (x : Bool). t || x) (any-append rest b) ∙ sym (or-assoc t (any rest) (any b))
 
 -- a table's first row applies, or the table is that of the rows after it
 pub row-applies : (t : Bool) (n : ℕ) (rest : List Row) → t ≡ true → firstRefusal (row t n ∷ rest) ≡ some n

@@ -21,6 +21,7 @@ use Rattle.volume.proofs.block_map.Words.{Sized}
 use Rattle.volume.proofs.extended_entry.Numbered.{Answered, InRow}
 use Rattle.volume.proofs.extended_header.Entries.{Extended}
 use Rattle.volume.proofs.header.Reading.{Agree, SameExtended}
+use Rattle.volume.proofs.attributes.Reserved as Reserved
 use Rattle.volume.proofs.block_map.Words as Words
 use Rattle.volume.proofs.extended_entry.Numbered as Numbered
 use Rattle.volume.proofs.extended_header.Entries as Entries
@@ -78,10 +79,10 @@ opened-edition = Reading.opened-edition
 
 -- "0x7FE00100 must be zero" in edition 2, and nothing else: attributes pass 108 exactly where they have no bit of that number
 pub reserved-zero : (a : ℕ) → attributesFault 2 a ≡ false → (k : ℕ) → bit 0x7FE00100 k ≡ 1 → bit a k ≡ 0
-reserved-zero = Reading.reserved-zero
+reserved-zero = Reserved.reserved-zero
 
 pub others-free : (a : ℕ) → ((k : ℕ) → bit 0x7FE00100 k ≡ 1 → bit a k ≡ 0) → attributesFault 2 a ≡ false
-others-free = Reading.others-free
+others-free = Reserved.others-free
 
 -- ---- the extended header (02, a)
 

@@ -1,13 +1,14 @@
 -- The rules of setting, as the code asks for them: the capabilities that a change needs, status by status; what a lock keeps; and which bits the fixed ones are.
 use Prim.Native.Nat.{ℕ}
 use mathlib.Core.Path.{_≡_, refl, sym, ap, _∙_}
-use mathlib.Core.List.{[], _∷_}
+use mathlib.Core.List.{List, [], _∷_}
 use mathlib.Core.Bool.{Bool, true, false, not, cond, _&&_, _||_, or-assoc, or-false, and-false}
 use borrow.Author.Tests.{eq-eqb, ne-eqb, eqb-true, eqb-false, not-false}
 use lib.Bits.{bitOr}
 use lib.Dec.{eqb}
 use Rattle.common.specs.Refusals.{any}
 use Rattle.common.proofs.Bits.{bit, masked-bit, bits-masked}
+use Rattle.common.proofs.Refusals.{any-append}
 use Rattle.volume.specs.Attributes.{flag, readDisabledCap, readEnabledCap, readStatus, writeDisabledCap, writeEnabledCap, writeStatus, lockCap, lockStatus, readLockCap, readLockStatus, writeLockCap, writeLockStatus}
 use Rattle.block_service.specs.Settings.{statusBits, changesFixed, changesLocked, breaksLock, lacksCapability, raises, clears}
 
@@ -16,6 +17,16 @@ use Rattle.block_service.specs.Settings.{statusBits, changesFixed, chang
 -- a status changes without the capability to raise it or to clear it
 abbrev lacking : Bool → Bool → Bool → Bool → Bool
 lacking was wanted mayRaise mayClear = not was && wanted && not mayRaise || was && not wanted && not mayClear
+
+-- what the statuses of both editions may lack
+abbrev sharedTests : ℕ → ℕ → List Bool
+sharedTests old new =
+    (raises old new readStatus && not (flag old readEnabledCap))
+    ∷ (clears old new readStatus && not (flag old readDisabledCap))
+    ∷ (raises old new writeStatus && not (flag old writeEnabledCap))
+    ∷ (clears old new writeStatus && not (flag old writeDisabledCap))
+    ∷ (raises old new lockStatus && not (flag old lockCap))
+    ∷ []
 
 module _ (old new : ℕ) where
   abbrev pub readLacking : Bool
@@ -63,25 +74,15 @@ module _ (old new : ℕ) where
   locks-split : lacksCapability 2 old new ≡ (lacksCapability 1 old new || (readLockLacking || writeLockLacking))
   unfolding lacksCapability any raises clears
   locks-split =
-      regroup
-      (not (flag old readStatus) && flag new readStatus && not (flag old readEnabledCap))
-      (flag old readStatus && not (flag new readStatus) && not (flag old readDisabledCap))
-      (not (flag old writeStatus) && flag new writeStatus && not (flag old writeEnabledCap))
-      (flag old writeStatus && not (flag new writeStatus) && not (flag old writeDisabledCap))
-      (not (flag old lockStatus) && flag new lockStatus && not (flag old lockCap))
-      (not (flag old readLockStatus) && flag new readLockStatus && not (flag old readLockCap))
+      any-append (sharedTests old new)
+      ((raises old new readLockStatus && not (flag old readLockCap)) ∷ (raises old new writeLockStatus && not (flag old writeLockCap)) ∷ [])
+      ∙ ap (λ (x : Bool). lacksCapability 1 old new || x)
+      (pair (not (flag old readLockStatus) && flag new readLockStatus && not (flag old readLockCap))
       (not (flag old writeLockStatus) && flag new writeLockStatus && not (flag old writeLockCap))
-      (flag old readLockStatus && not (flag new readLockStatus))
-      (flag old writeLockStatus && not (flag new writeLockStatus))
+      (flag old readLockStatus && not (flag new readLockStatus)) (flag old writeLockStatus && not (flag new writeLockStatus)))
     where
-      regroup : (a b c d e f g h i : Bool)
-          → (a || (b || (c || (d || (e || (f || (g || false))))))) ≡ ((a || (b || (c || (d || (e || false))))) || ((f || (h && false)) || (g || (i && false))))
-      regroup true b c d e f g h i = refl
-      regroup false true c d e f g h i = refl
-      regroup false false true d e f g h i = refl
-      regroup false false false true e f g h i = refl
-      regroup false false false false true f g h i = refl
-      regroup false false false false false f g h i = sym (rw (and-false h, and-false i, or-false f, or-false g))
+      pair : (f g h i : Bool) → (f || (g || false)) ≡ ((f || (h && false)) || (g || (i && false)))
+      pair f g h i = sym (rw (and-false h, and-false i, or-false f))
 
   pub other-lacks : (edition : ℕ) → (edition ≡ 2 → ⊥) → lacksCapability edition old new ≡ lacksCapability 1 old new
   unfolding lacksCapability

@@ -1,17 +1,16 @@
 -- What opening depends on, and when it succeeds.
 use Prim.Native.Nat.{ℕ, zero, suc, _+_, _-_, _*_, _/_, _%_, _≤_, _<_}
 use mathlib.Core.Path.{_≡_, refl, sym, ap, ap₂, _∙_}
-use mathlib.Core.Bool.{Bool, true, false, not, cond}
+use mathlib.Core.Bool.{Bool, true, false, cond}
 use mathlib.Core.List.{List, [], _∷_}
 use mathlib.Core.Option.{Option, none, some}
 use native.Mathlib.Omega.{arith}
-use borrow.Author.Tests.{le-ltb, eq-eqb, ne-eqb, ltb-false, eqb-true, eqb-false, not-false}
+use borrow.Author.Tests.{le-ltb, eq-eqb, ne-eqb, ltb-false, eqb-false, not-false}
 use lib.Dec.{eqb, ltb}
 use lib.ListN.{length, getD, take, drop, replicate, length-take, length-drop}
 use lib.Seq.{ext-getD, getD-take, getD-drop, length-take-le, take-at, drop-at}
 use Rattle.common.specs.Answers.{refused, success}
 use Rattle.common.specs.Refusals.{row, firstRefusal, unlessRefused, any}
-use Rattle.common.proofs.Bits.{bit, apart-bit, bits-apart}
 use Rattle.common.proofs.Refusals.{row-passed, then-passed, then-refused, front-passed, neither, row-applies, row-passes, no-row}
 use Rattle.numbers.specs.LittleEndian.{le}
 use Rattle.numbers.proofs.LittleEndian.{le-same}
@@ -294,14 +293,3 @@ unfolding openVolume stateAt stateOf stateWith
 opened-lawful v base success-v =
     let e = opened-passed v base success-v in
     rw e (lawful-from v (stateAt v base) refl e (zero-beyond v base))
-
--- ---- edition 2's rule 108
-
--- where a mask and a number have no bit in common, the number has none of the mask's
-pub reserved-zero : (a : ℕ) → attributesFault 2 a ≡ false → (k : ℕ) → bit 0x7FE00100 k ≡ 1 → bit a k ≡ 0
-unfolding attributesFault
-reserved-zero a e k = apart-bit a 0x7FE00100 (eqb-true _ _ (not-false _ e)) k
-
-pub others-free : (a : ℕ) → ((k : ℕ) → bit 0x7FE00100 k ≡ 1 → bit a k ≡ 0) → attributesFault 2 a ≡ false
-unfolding attributesFault
-others-free a h = ap not (eq-eqb _ _ (bits-apart a 0x7FE00100 h))

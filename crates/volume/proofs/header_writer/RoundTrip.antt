@@ -246,6 +246,28 @@ accepted edition len a words room p =
     let w = words-passed words (r1 .0) in
     record { nonzero = w .0; even = w .1; size = r2 .0; attributes = r3 .0 }
 
+-- a writing that succeeded passed its table, and the room starts with the header, k bytes long
+record Done (edition offset : ℕ) (guid : List ℕ) (len a : ℕ) (words room : List ℕ) (k : ℕ) : Type 0 where
+  pub passed : firstRefusal (writeRefusals edition len a words (length room)) ≡ none
+  pub long : length (headerBytes edition offset guid len a words) ≡ k
+  pub front : take k (writeHeader edition offset guid len a words room .room) ≡ headerBytes edition offset guid len a words
+
+was-done : (edition offset : ℕ) (guid : List ℕ) (len a : ℕ) (words room : List ℕ) (k : ℕ) → writeHeader edition offset guid len a words room .answer ≡ success (k ∷ [])
+    → Done edition offset guid len a words room k
+unfolding writeHeader
+was-done edition offset guid len a words room k done = go (firstRefusal (writeRefusals edition len a words (length room))) refl done
+  where
+    header : List ℕ
+    header = headerBytes edition offset guid len a words
+
+    outcome : Option ℕ → HeaderWritten
+    outcome o = unlessRefused (λ n. wrote (refused n) room) o (wrote (success (length header ∷ [])) (header ++ drop (length header) room))
+
+    go : (o : Option ℕ) → firstRefusal (writeRefusals edition len a words (length room)) ≡ o → outcome o .answer ≡ success (k ∷ [])
+        → Done edition offset guid len a words room k
+    go (some m) p w = let z : _≡_ {A = ℕ} 0 1 = cc in absurd (omega arith)
+    go none p w = let e : length header ≡ k = cc in record { passed = p; long = e; front = rw p (take-at header (drop (length header) room) k e) }
+
 -- a volume that starts with the header holds its values
 module _ (edition offset : ℕ) (known : knownEdition edition ≡ true) (one-byte : edition < 256) (two-bytes : offset < 2 ^ 16) (guid : List ℕ) (len a : ℕ)
     (words : List ℕ) (g : length guid ≡ 16) (small : a < 2 ^ 32) (below : (i : ℕ) → getD words i 0 < 2 ^ 32) where
@@ -275,24 +297,16 @@ module _ (edition offset : ℕ) (known : knownEdition edition ≡ true) (one-byt
       pub long : k ≡ 64 + 8 * (length words / 2)
       pub whole : v ≡ header ++ drop k v
 
-    outcome : Option ℕ → HeaderWritten
-    outcome o = unlessRefused (λ n. wrote (refused n) room) o (wrote (success (length header ∷ [])) (header ++ drop (length header) room))
-
     begins : Starts
-    unfolding writeHeader header headerBytes outcome
-    begins = go (firstRefusal (writeRefusals edition len a words (length room))) refl done starts
-      where
-        go : (o : Option ℕ) → firstRefusal (writeRefusals edition len a words (length room)) ≡ o → outcome o .answer ≡ success (k ∷ [])
-            → take k v ≡ take k (outcome o .room) → Starts
-        go (some m) p w t = let z : _≡_ {A = ℕ} 0 1 = cc in absurd (omega arith)
-        go none p w t =
-            let e : length header ≡ k = cc in
-            let fine = accepted edition len a words (length room) p in
-            record {
-              ok = fine;
-              long = sym e ∙ length-header (checksum (wordSum (headerWith 0 edition offset guid len a words))) edition offset guid len a words g (fine .even);
-              whole = sym (take-append-drop k v) ∙ ap (λ (l : List ℕ). l ++ drop k v) (t ∙ take-at header (drop (length header) room) k e);
-            }
+    unfolding header headerBytes
+    begins =
+        let d = was-done edition offset guid len a words room k done in
+        let fine = accepted edition len a words (length room) (d .passed) in
+        record {
+          ok = fine;
+          long = sym (d .long) ∙ length-header (checksum (wordSum (headerWith 0 edition offset guid len a words))) edition offset guid len a words g (fine .even);
+          whole = sym (take-append-drop k v) ∙ ap (λ (l : List ℕ). l ++ drop k v) (starts ∙ d .front);
+        }
 
     module _ (base : ℕ) (mapped : baseFault a base ≡ false) where
       sound : Holds v guid len a edition (length words / 2) words
@@ -366,17 +380,4 @@ pi-round-trip-none guid len a words room g small below k done v lent starts base
 pub written-sum-zero : (edition offset : ℕ) (guid : List ℕ) (len a : ℕ) (words room : List ℕ) → length guid ≡ 16 → (k : ℕ)
     → writeHeader edition offset guid len a words room .answer ≡ success (k ∷ [])
     → wordSum (take k (writeHeader edition offset guid len a words room .room)) % wordModulus ≡ 0
-unfolding writeHeader
-written-sum-zero edition offset guid len a words room g k done = go (firstRefusal (writeRefusals edition len a words (length room))) done
-  where
-    header' : List ℕ
-    header' = headerBytes edition offset guid len a words
-
-    outcome' : Option ℕ → HeaderWritten
-    outcome' o = unlessRefused (λ n. wrote (refused n) room) o (wrote (success (length header' ∷ [])) (header' ++ drop (length header') room))
-
-    go : (o : Option ℕ) → outcome' o .answer ≡ success (k ∷ []) → wordSum (take k (outcome' o .room)) % wordModulus ≡ 0
-    go (some m) w = let z : _≡_ {A = ℕ} 0 1 = cc in absurd (omega arith)
-    go none w =
-        let e : length header' ≡ k = cc in
-        rw (take-at header' (drop (length header') room) k e) (sum-zero edition offset guid len a words g)
+written-sum-zero edition offset guid len a words room g k done = rw (was-done edition offset guid len a words room k done .front) (sum-zero edition offset guid len a words g)

@@ -1,11 +1,11 @@
 -- `volume::attributes::attributes_fault` meets its contract: each test is one of the edition's.
 use mathlib.Core.Path.{_≡_, sym, _∙_}
-use mathlib.Core.Bool.{false, or-true, or-false}
+use mathlib.Core.Bool.{false, not, _&&_, or-true, or-false}
 use borrow.Author.Needs.{needs}
 use borrow.Author.Tests.{ne-eqb}
 use lib.Dec.{eqb}
 use Rattle.common.specs.Refusals.{any}
-use Rattle.volume.specs.Attributes.{attributesFault}
+use Rattle.volume.specs.Attributes.{flag, alignmentCap, alignments, attributesFault}
 use Rattle.volume.proofs.attributes.attributes_fault.Statement.{statement}
 use Rattle.volume.proofs.attributes.attributes_fault.Tie as tie
 
@@ -64,10 +64,12 @@ returns-5 c = simp (other (zero (one (two (c .before .before)))), sym (c .before
 is-set-requires-5 : tie.Need-is-set-requires-5
 is-set-requires-5 c κs = search needs
 
-returns-6 : tie.Need-returns-6
+-- behind the four bits the alignments decide
+alignments-decide : (c : tie.Else5)
+    → let args = zero (one (two (three c))) .before .args in
+    attributesFault (args .edition) (args .a) ≡ (not (flag (args .a) alignmentCap) && not (eqb (alignments (args .a)) 0))
 unfolding attributesFault any
-returns-6 c =
-    let d = c .before .before in
+alignments-decide d =
     let e = three d in
     let f = two e in
     let g = one f in
@@ -77,25 +79,14 @@ returns-6 c =
       sym (f .before .is-set2 .ensures) ∙ f .if3 .left,
       sym (e .before .is-set3 .ensures) ∙ e .if4 .left,
       sym (d .before .is-set4 .ensures) ∙ d .if5 .left,
-      sym (c .before .is-set5 .ensures) ∙ c .if6 .taken,
-    )
-
-returns-7 : tie.Need-returns-7
-unfolding attributesFault any
-returns-7 c =
-    let d = four c in
-    let e = three d in
-    let f = two e in
-    let g = one f in
-    simp (
-      other (zero g),
-      sym (g .before .is-set .ensures) ∙ g .if2 .left,
-      sym (f .before .is-set2 .ensures) ∙ f .if3 .left,
-      sym (e .before .is-set3 .ensures) ∙ e .if4 .left,
-      sym (d .before .is-set4 .ensures) ∙ d .if5 .left,
-      sym (c .before .is-set5 .ensures) ∙ c .if6 .left,
       or-false,
     )
+
+returns-6 : tie.Need-returns-6
+returns-6 c = sym (alignments-decide (c .before .before) ∙ rw (sym (c .before .is-set5 .ensures) ∙ c .if6 .taken))
+
+returns-7 : tie.Need-returns-7
+returns-7 c = sym (alignments-decide (four c) ∙ rw (sym (c .before .is-set5 .ensures) ∙ c .if6 .left))
 
 pub attributes-fault-spec : {M : Type 1} → statement M
 attributes-fault-spec =
