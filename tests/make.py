@@ -14,7 +14,7 @@ from pathlib import Path
 sys.dont_write_bytecode = True
 
 import trial
-from cases import editions, headers, service, streams
+from cases import editions, headers, protection, service, streams
 from model.volume import listing
 
 ROOT = Path(__file__).resolve().parent.parent
@@ -38,7 +38,7 @@ def checked(cases):
 
 
 def made():
-    return list(checked(pair for part in (headers, editions, service, streams) for pair in part.cases()))
+    return list(checked(pair for part in (headers, editions, service, protection, streams) for pair in part.cases()))
 
 
 def files(cases):

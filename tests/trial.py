@@ -13,6 +13,7 @@ Case = namedtuple("Case", "name script lines numbers")     # numbers: the answer
 WORKING = 4096      # bytes of a working volume
 ROOM = 512          # bytes of a header's room and of a section buffer
 LISTING = 1024      # bytes of a listing's room
+LIST = 96           # words of an erase list at most
 BLOCK = 65536       # bytes that are looked at together; the pattern repeats after as many
 PRIME = 4294967291
 ERASED = (0xFF00, 0)
@@ -57,9 +58,9 @@ def shown(data):
 
 def state_fields(state):
     if state is None:
-        return [0, 0, 0, 0, 0, "00" * 16, ""]
+        return [0, 0, 0, 0, 0, 0, "00" * 16, ""]
     map_words = "".join("%d:%d," % (i, w) for i, w in enumerate(state.map) if w)
-    return [state.length, state.attributes, state.edition, state.entries, state.base, state.guid.hex(), map_words]
+    return [state.length, state.attributes, state.edition, state.first_protected, state.entries, state.base, state.guid.hex(), map_words]
 
 
 def blocks(data):
@@ -149,8 +150,8 @@ def listing(name, own, lent, room=LISTING, pattern=ERASED):
 
 
 def state_item(state):
-    return items(state.guid, number(state.length), words([state.attributes], 4),
-                 number(state.base), words([state.edition], 4), number(state.entries), words(state.map, 4))
+    return items(state.guid, number(state.length), words([state.attributes], 4), number(state.base),
+                 words([state.edition], 4), number(state.first_protected), number(state.entries), words(state.map, 4))
 
 
 # What a call gives: its word, the arguments shown, the answer, further fields, the state, its script.
@@ -164,6 +165,9 @@ def state_call(state, which, *args):
     if which == "set":
         no, value, after = volume.set_attributes(state, *args)
         return Made("set attributes", [], (no, value), state_fields(after), after, items(number(1), words(args, 4)))
+    if which == "protect":
+        no, after = volume.protect_blocks(state, *args)
+        return Made("protect blocks", args, (no,), state_fields(after), after, items(number(7), number(*args)))
     if which == "address":
         return Made("get physical address", [], volume.get_physical_address(state), [], state, items(number(2)))
     return Made("get block size", args, volume.get_block_size(state, *args), [], state, items(number(3), number(*args)))
@@ -185,6 +189,7 @@ def volume_call(state, lent_bytes, which, lent, *args):
         lent_bytes[:lent] = part
         script = items(number(5), number(lent), number(block), number(offset), data)
         return Made("write", [block, offset, len(data)], answer, [], state, script)
+    assert len(*args) <= LIST, len(*args)
     answer = volume.erase_blocks(state, part, *args)
     lent_bytes[:lent] = part
     return Made("erase blocks", [len(*args)], answer, [], state, items(number(6), number(lent), words(*args, 8)))

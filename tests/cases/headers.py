@@ -1,7 +1,7 @@
 """Opening, header writing, listing and the word sum. What edition 2 has of its own is in editions.py.
 
 A line of a case: its name, the call, and
-  open          number, length, attributes, edition, entries, base, GUID, map words (zeros on a refusal)
+  open          number, length, attributes, edition, first protected block, entries, base, GUID, map words (zeros on a refusal)
   write header  number, header length on success, the room's change
   list          number, length of the text on success, the text with | for a line feed
   word sum      the sum after each word, and of all the bytes, in hexadecimal

@@ -1,4 +1,4 @@
-"""The seven calls of the block service, alone and in runs.
+"""The calls of the block service, alone and in runs. Setting the mark, and what the mark refuses, is in protection.py.
 
 A line of a case for each call: the case's name, the call, and
   get attributes        number, settings
@@ -8,6 +8,7 @@ A line of a case for each call: the case's name, the call, and
   read                  block, offset, buffer length, number, count, the buffer's change
   write                 block, offset, data length, number, count
   erase blocks          words of the list, number
+  protect blocks        the first protected block wanted, number, the state afterwards
 and then the volume's change. Values stand beside 0 and 4 alone. README.md has the fields of a change.
 A name's end says which refusals the case gets.
 """
@@ -280,16 +281,19 @@ def header_gone_cases():
     yield run("another header written over, the first one's blocks stay", own, [write(0, 0, fake), ("size", 0), ("size", 3), read(3, 0, 4)])
 
 
-def given(map_words=A_MAP, length=2048, attributes=ALL | ONES, base=0, entries=None, beyond=(), edition=1):
+def given(map_words=A_MAP, length=2048, attributes=ALL | ONES, base=0, entries=None, beyond=(), edition=1, mark=None):
+    """A state; no block is protected unless told otherwise."""
     table = list(map_words) + [0] * (64 - len(map_words))
     for place, word in beyond:
         table[place] = word
-    return State(GUID, length, attributes, base, edition, len(map_words) // 2 if entries is None else entries, table)
+    entries = len(map_words) // 2 if entries is None else entries
+    mark = sum(table[:2 * entries:2]) if mark is None else mark
+    return State(GUID, length, attributes, base, edition, mark, entries, table)
 
 
 EVERY_CALL = [("settings",), ("set", ALL | ONES), ("set", 0), ("address",), ("size", 0), ("size", 9), read(0, 0, 4),
-              write(0, 0, b"\x00"), erase(0, 1, END), erase()]
-REFUSED_CALLS = [read(9, 0, 1, 0), write(9, 0, b"", 0), erase(lent=0), ("address",), ("size", 9), ("set", 1)]    # by 5, 15, 2 or 3
+              write(0, 0, b"\x00"), erase(0, 1, END), erase(), ("protect", 0)]
+REFUSED_CALLS = [read(9, 0, 1, 0), write(9, 0, b"", 0), erase(lent=0), ("address",), ("size", 9), ("set", 1), ("protect", END)]    # by 5, 15, 2 or 3
 
 
 def seven_calls(settings):
@@ -320,7 +324,7 @@ def unlawful_cases():
 
 
 def edition_cases():
-    """111 by edition, for each of the seven calls; and 108 by edition."""
+    """111 by edition, for each of the calls; and 108 by edition."""
     mapped = ALL | ONES | MAPPED
     for edition in (0, 3, 0x102, 2**32 - 1):
         yield run("state of edition 0x%X: 111" % edition, b"", EVERY_CALL, state=given(edition=edition))

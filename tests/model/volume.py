@@ -1,6 +1,7 @@
-"""Firmware volumes, as the scope document describes them, with requests a, b and
-d of 02: opening, header writing, the seven calls of the block service and the
-entries of the extended header.
+"""Firmware volumes, as the scope document describes them, with requests a, b, d
+and j of 02: opening, header writing, the calls of the block service (the seven
+of the scope document, and j's setting of the mark) and the entries of the
+extended header.
 
 Every function answers (number, values...): 0 for success, 4 for short, else
 the refusal number. Lent bytes are bytearrays and are changed in place.
@@ -23,10 +24,11 @@ MAX_ENTRIES, MAX_BLOCKS, MAX_LENGTH = 32, 65536, 16777216
 SIGNATURE = bytes([0x5F, 0x46, 0x56, 0x48])
 END_OF_LIST = 2**64 - 1
 
-# edition is the header's revision; entries is the number of map entries that
-# count; map holds 64 words, a count and a length for each entry, zero beyond
-# the entries.
-State = namedtuple("State", "guid length attributes base edition entries map")
+# edition is the header's revision; first_protected is request j's mark, the
+# first protected block or the number of blocks where none is; entries is the
+# number of map entries that count; map holds 64 words, a count and a length for
+# each entry, zero beyond the entries.
+State = namedtuple("State", "guid length attributes base edition first_protected entries map")
 
 
 def number(data, place, width):
@@ -50,6 +52,10 @@ def pairs_of(words):
     return [(words[i], words[i + 1]) for i in range(0, len(words) - 1, 2)]
 
 
+def blocks_of(pairs):
+    return sum(count for count, _ in pairs)
+
+
 def has_zero_word(pairs):
     return any(count == 0 or length == 0 for count, length in pairs)
 
@@ -57,7 +63,7 @@ def has_zero_word(pairs):
 def breaks_107(pairs, length):
     return (len(pairs) < 1
             or len(pairs) > MAX_ENTRIES
-            or sum(count for count, _ in pairs) > MAX_BLOCKS
+            or blocks_of(pairs) > MAX_BLOCKS
             or length > MAX_LENGTH
             or sum(count * size for count, size in pairs) != length
             or 64 + 8 * len(pairs) > length)
@@ -126,7 +132,7 @@ def open_volume(data, base):
     if extended_entries(data, header_length, length) is None:
         return 112, None
     table = words[:-2] + [0] * (64 - len(words[:-2]))
-    return 0, State(bytes(data[16:32]), length, attributes, base, edition, len(pairs) - 1, table)
+    return 0, State(bytes(data[16:32]), length, attributes, base, edition, blocks_of(pairs[:-1]), len(pairs) - 1, table)
 
 
 def header_bytes(guid, length, attributes, words, edition=1, offset=0):
@@ -178,7 +184,7 @@ def ext_entry(data, n):
 
 
 def unlawful(state):
-    """111: another edition, or the state breaks 106, 107, 108 or 110, or is not zero beyond its entries."""
+    """111: another edition, or the state breaks 106, 107, 108 or 110, or is not zero beyond its entries, or its mark is past the blocks."""
     pairs = pairs_of(state.map)[:state.entries]
     return (state.edition not in (1, 2)
             or state.entries > MAX_ENTRIES
@@ -186,7 +192,8 @@ def unlawful(state):
             or breaks_107(pairs, state.length)
             or breaks_108(state.edition, state.attributes)
             or breaks_110(state.attributes, state.base)
-            or any(state.map[2 * state.entries:]))
+            or any(state.map[2 * state.entries:])
+            or state.first_protected > blocks_of(pairs))
 
 
 def entries_of(state):
@@ -239,6 +246,15 @@ def set_attributes(state, wanted):
         if changed & bit and not old & capability:
             return 2, 0, state
     return 0, wanted, state._replace(attributes=wanted)
+
+
+def protect_blocks(state, first):
+    """(number, state): request j, the mark may be lowered and never raised"""
+    if unlawful(state):
+        return 111, state
+    if first > state.first_protected:
+        return 2, state
+    return 0, state._replace(first_protected=first)
 
 
 def get_physical_address(state):
@@ -295,6 +311,8 @@ def write(state, volume, block, offset, data):
     found = find_block(state, block)
     if found is None:
         return 2, 0
+    if block >= state.first_protected:
+        return 15, 0
     count = room_in_block(found[1], offset, len(data))
     place = found[0] + offset
     for i in range(count):
@@ -329,11 +347,13 @@ def erase_blocks(state, volume, words):
     pairs = erase_pairs(words, blocks)
     if pairs is None:
         return (2,)
+    named = [block for first, count in pairs for block in range(first, first + count)]
+    if any(block >= state.first_protected for block in named):
+        return (15,)
     value = 0xFF if state.attributes & ERASE_ONE else 0
-    for first, count in pairs:
-        for block in range(first, first + count):
-            place, length = find_block(state, block)
-            volume[place:place + length] = bytes([value]) * length
+    for block in named:
+        place, length = find_block(state, block)
+        volume[place:place + length] = bytes([value]) * length
     return (0,)
 
 

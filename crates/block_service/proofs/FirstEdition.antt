@@ -1,10 +1,11 @@
--- Edition 1 is served as before request a (02): every call on every state of edition 1 and every volume. The definitions of that time stand here word for word, each with ₁ behind
--- its name, over volume's State₁; what does not name the state is today's own, unchanged since.
+-- Edition 1 is served as before request a (02): each of the seven calls of that time, on every state of edition 1 whose first protected block is the number of blocks, as at opening,
+-- and every volume. The definitions of that time stand here word for word, each with ₁ behind its name, over volume's State₁ and the seven calls; what names neither the state nor the
+-- calls is today's own, unchanged since.
 use Prim.Native.Nat.{ℕ, zero, suc, _+_, _*_, _/_, _%_, _^_}
 use mathlib.Core.Bool.{Bool, true, false, not, _&&_, or-false}
 use mathlib.Core.List.{List, [], _∷_, _++_}
 use mathlib.Core.Option.{Option, none, some}
-use mathlib.Core.Path.{_≡_, refl, sym, _∙_}
+use mathlib.Core.Path.{_≡_, refl, sym, ap, _∙_}
 use native.Mathlib.Nat.{div-one, div-div-eq-div-mul}
 use native.Mathlib.Omega.{arith}
 use borrow.Author.Tests.{eq-eqb, eqb-true, eqb-false, not-false}
@@ -18,14 +19,16 @@ use Rattle.common.proofs.Bits.{bit, masked-bit, bits-masked, above-mask}
 use Rattle.common.proofs.Refusals.{any-passed}
 use Rattle.volume.specs.Attributes.{flag, readDisabledCap, readEnabledCap, readStatus, writeDisabledCap, writeEnabledCap, writeStatus, lockCap, lockStatus, memoryMapped}
 use Rattle.volume.specs.BlockMap.{blocks}
-use Rattle.volume.specs.State.{mapOf, stateWith}
+use Rattle.volume.specs.State.{mapOf, stateWith, unlawful}
 use Rattle.volume.specs.declared.state.State.{State}
-use Rattle.volume.proofs.FirstEdition.{State₁, stateWith₁, mapOf₁, unlawful₁, withoutEdition, unlawful-as-before}
+use Rattle.volume.proofs.FirstEdition.{State₁, stateWith₁, mapOf₁, unlawful₁, former, unlawful-as-before}
 use Rattle.block_service.specs.Access.{countMoved, ByteChange, changedByte, writeChange}
 use Rattle.block_service.specs.Blocks.{place, startOf, lengthOf, consecutiveBlocks}
 use Rattle.block_service.specs.Erase.{goodList, eraseChange}
-use Rattle.block_service.specs.Service.{Call, getAttributes, setAttributes, getPhysicalAddress, getBlockSize, read, write, eraseBlocks, lentRefusals, refusals}
+use Rattle.block_service.specs.Service.{Call, getAttributes, setAttributes, getPhysicalAddress, getBlockSize, read, write, eraseBlocks, protectBlocks, lentRefusals, refusals}
 use Rattle.block_service.specs.Service.{reply, moveAnswer, effect, withAttributes, decide, Result, perform, bufferOf, step}
+use Rattle.block_service.proofs.service.Erasing.{unprotected-write, unprotected-erase}
+use Rattle.block_service.proofs.service.Kept.{map-kept, edition-kept, protection-kept}
 use Rattle.block_service.specs.Settings.{statusBits, changesFixed, changesLocked, raises, clears, lacksCapability, settingRefusals}
 
 abbrev changesFixed₁ : ℕ → ℕ → Bool
@@ -136,6 +139,25 @@ settings-as-before old new = rw (fixed-as-before old new, or-false (flag old loc
 
 -- ---- the seven calls
 
+pub data Call₁ : Type 0 where
+  getAttributes₁ : Call₁
+  setAttributes₁ : ℕ → Call₁
+  getPhysicalAddress₁ : Call₁
+  getBlockSize₁ : ℕ → Call₁
+  read₁ : ℕ → ℕ → List ℕ → Call₁
+  write₁ : ℕ → ℕ → List ℕ → Call₁
+  eraseBlocks₁ : List ℕ → Call₁
+
+-- the same call today
+abbrev pub today : Call₁ → Call
+today getAttributes₁ = getAttributes
+today (setAttributes₁ new) = setAttributes new
+today getPhysicalAddress₁ = getPhysicalAddress
+today (getBlockSize₁ block) = getBlockSize block
+today (read₁ block offset buffer) = read block offset buffer
+today (write₁ block offset new) = write block offset new
+today (eraseBlocks₁ list) = eraseBlocks list
+
 abbrev lentRefusals₁ : State₁ → ℕ → ℕ → List Row
 lentRefusals₁ st n status =
     row (unlawful₁ st) 111
@@ -143,14 +165,14 @@ lentRefusals₁ st n status =
     ∷ row (not (flag (st .attributes) status)) 15
     ∷ []
 
-abbrev refusals₁ : State₁ → ℕ → Call → List Row
-refusals₁ st n getAttributes = row (unlawful₁ st) 111 ∷ []
-refusals₁ st n (setAttributes new) = row (unlawful₁ st) 111 ∷ settingRefusals₁ (st .attributes) new
-refusals₁ st n getPhysicalAddress = row (unlawful₁ st) 111 ∷ row (not (flag (st .attributes) memoryMapped)) 3 ∷ []
-refusals₁ st n (getBlockSize block) = row (unlawful₁ st) 111 ∷ row (leb (blocks (mapOf₁ st)) block) 2 ∷ []
-refusals₁ st n (read block offset buffer) = lentRefusals₁ st n readStatus ++ (row (leb (blocks (mapOf₁ st)) block) 2 ∷ [])
-refusals₁ st n (write block offset new) = lentRefusals₁ st n writeStatus ++ (row (leb (blocks (mapOf₁ st)) block) 2 ∷ [])
-refusals₁ st n (eraseBlocks list) = lentRefusals₁ st n writeStatus ++ (row (not (goodList (blocks (mapOf₁ st)) list)) 2 ∷ [])
+abbrev refusals₁ : State₁ → ℕ → Call₁ → List Row
+refusals₁ st n getAttributes₁ = row (unlawful₁ st) 111 ∷ []
+refusals₁ st n (setAttributes₁ new) = row (unlawful₁ st) 111 ∷ settingRefusals₁ (st .attributes) new
+refusals₁ st n getPhysicalAddress₁ = row (unlawful₁ st) 111 ∷ row (not (flag (st .attributes) memoryMapped)) 3 ∷ []
+refusals₁ st n (getBlockSize₁ block) = row (unlawful₁ st) 111 ∷ row (leb (blocks (mapOf₁ st)) block) 2 ∷ []
+refusals₁ st n (read₁ block offset buffer) = lentRefusals₁ st n readStatus ++ (row (leb (blocks (mapOf₁ st)) block) 2 ∷ [])
+refusals₁ st n (write₁ block offset new) = lentRefusals₁ st n writeStatus ++ (row (leb (blocks (mapOf₁ st)) block) 2 ∷ [])
+refusals₁ st n (eraseBlocks₁ list) = lentRefusals₁ st n writeStatus ++ (row (not (goodList (blocks (mapOf₁ st)) list)) 2 ∷ [])
 
 pub data Effect₁ : Type 0 where
   reply₁ : Answer → Effect₁
@@ -161,22 +183,22 @@ pub data Effect₁ : Type 0 where
 abbrev withAttributes₁ : State₁ → ℕ → State₁
 withAttributes₁ st a = stateWith₁ (st .guid) (st .length) a (st .base) (st .entries) (st .map)
 
-abbrev effect₁ : State₁ → Call → Effect₁
-effect₁ st getAttributes = reply₁ (success (st .attributes ∷ []))
-effect₁ st (setAttributes new) = setTo₁ (withAttributes₁ st new) (success (new ∷ []))
-effect₁ st getPhysicalAddress = reply₁ (success (st .base ∷ []))
-effect₁ st (getBlockSize block) = reply₁ (success (lengthOf (place (mapOf₁ st) block) ∷ consecutiveBlocks (mapOf₁ st) block ∷ []))
-effect₁ st (read block offset buffer) =
+abbrev effect₁ : State₁ → Call₁ → Effect₁
+effect₁ st getAttributes₁ = reply₁ (success (st .attributes ∷ []))
+effect₁ st (setAttributes₁ new) = setTo₁ (withAttributes₁ st new) (success (new ∷ []))
+effect₁ st getPhysicalAddress₁ = reply₁ (success (st .base ∷ []))
+effect₁ st (getBlockSize₁ block) = reply₁ (success (lengthOf (place (mapOf₁ st) block) ∷ consecutiveBlocks (mapOf₁ st) block ∷ []))
+effect₁ st (read₁ block offset buffer) =
     let found = place (mapOf₁ st) block in
     let count = countMoved (lengthOf found) offset (length buffer) in
     copyOut₁ (startOf found + offset) count (moveAnswer count (length buffer))
-effect₁ st (write block offset new) =
+effect₁ st (write₁ block offset new) =
     let found = place (mapOf₁ st) block in
     let count = countMoved (lengthOf found) offset (length new) in
     change₁ (writeChange (startOf found + offset) count new) (moveAnswer count (length new))
-effect₁ st (eraseBlocks list) = change₁ (eraseChange (mapOf₁ st) list) (success [])
+effect₁ st (eraseBlocks₁ list) = change₁ (eraseChange (mapOf₁ st) list) (success [])
 
-abbrev decide₁ : State₁ → ℕ → Call → Effect₁
+abbrev decide₁ : State₁ → ℕ → Call₁ → Effect₁
 decide₁ st n call = unlessRefused (λ number. reply₁ (refused number)) (firstRefusal (refusals₁ st n call)) (effect₁ st call)
 
 pub record Result₁ : Type 0 where
@@ -195,41 +217,84 @@ perform₁ st volume buffer (copyOut₁ at count a) = result₁ a st volume (tak
 perform₁ st volume buffer (change₁ f a) =
     result₁ a st (edit (λ i old. changedByte (st .attributes) (f i) old) 0 volume) buffer
 
-abbrev pub step₁ : State₁ → List ℕ → Call → Result₁
-step₁ st volume call = perform₁ st volume (bufferOf call) (decide₁ st (length volume) call)
+abbrev bufferOf₁ : Call₁ → List ℕ
+bufferOf₁ getAttributes₁ = []
+bufferOf₁ (setAttributes₁ new) = []
+bufferOf₁ getPhysicalAddress₁ = []
+bufferOf₁ (getBlockSize₁ block) = []
+bufferOf₁ (read₁ block offset buffer) = buffer
+bufferOf₁ (write₁ block offset new) = []
+bufferOf₁ (eraseBlocks₁ list) = []
 
--- the tables are the old ones
-refusals-as-before : (st : State) (n : ℕ) (c : Call) → st .edition ≡ 1 → refusals st n c ≡ refusals₁ (withoutEdition st) n c
+abbrev pub step₁ : State₁ → List ℕ → Call₁ → Result₁
+step₁ st volume call = perform₁ st volume (bufferOf₁ call) (decide₁ st (length volume) call)
+
+-- rule 111 is as it was
+lawful-as-before : (st : State) → st .edition ≡ 1 → st .protected ≡ blocks (mapOf st) → unlawful st ≡ unlawful₁ (former st)
+lawful-as-before st e p = unlawful-as-before st e (omega arith)
+
+-- a call is refused as it was
+refused-as-before : (st : State) (n : ℕ) (c : Call₁) → st .edition ≡ 1 → st .protected ≡ blocks (mapOf st)
+    → firstRefusal (refusals st n (today c)) ≡ firstRefusal (refusals₁ (former st) n c)
 unfolding refusals lentRefusals mapOf
-refusals-as-before st n getAttributes e = rw (unlawful-as-before st e)
-refusals-as-before st n (setAttributes new) e = rw (unlawful-as-before st e, e, settings-as-before (st .attributes) new)
-refusals-as-before st n getPhysicalAddress e = rw (unlawful-as-before st e)
-refusals-as-before st n (getBlockSize b) e = rw (unlawful-as-before st e)
-refusals-as-before st n (read b o buffer) e = rw (unlawful-as-before st e)
-refusals-as-before st n (write b o new) e = rw (unlawful-as-before st e)
-refusals-as-before st n (eraseBlocks list) e = rw (unlawful-as-before st e)
+refused-as-before st n getAttributes₁ e p = rw (lawful-as-before st e p)
+refused-as-before st n (setAttributes₁ new) e p = rw (lawful-as-before st e p, e, settings-as-before (st .attributes) new)
+refused-as-before st n getPhysicalAddress₁ e p = rw (lawful-as-before st e p)
+refused-as-before st n (getBlockSize₁ b) e p = rw (lawful-as-before st e p)
+refused-as-before st n (read₁ b o buffer) e p = rw (lawful-as-before st e p)
+refused-as-before st n (write₁ b o new) e p = unprotected-write st n p b o new ∙ rw (lawful-as-before st e p)
+refused-as-before st n (eraseBlocks₁ list) e p = unprotected-erase st n p list ∙ rw (lawful-as-before st e p)
 
--- a result without the edition of its state
-abbrev pub resultWithout : Result → Result₁
-resultWithout r = result₁ (r .answer) (withoutEdition (r .state)) (r .volume) (r .buffer)
+-- a result without the edition and the first protected block of its state
+abbrev pub formerResult : Result → Result₁
+formerResult r = result₁ (r .answer) (former (r .state)) (r .volume) (r .buffer)
 
 -- a refused call leaves, and an allowed one does, what it did
-effect-as-before : (st : State) (v buffer : List ℕ) (c : Call) → resultWithout (perform st v buffer (effect st c)) ≡ perform₁ (withoutEdition st) v buffer (effect₁ (withoutEdition st) c)
+effect-as-before : (st : State) (v buffer : List ℕ) (c : Call₁) → formerResult (perform st v buffer (effect st (today c))) ≡ perform₁ (former st) v buffer (effect₁ (former st) c)
 unfolding perform effect mapOf withAttributes stateWith
-effect-as-before st v buffer getAttributes = refl
-effect-as-before st v buffer (setAttributes new) = refl
-effect-as-before st v buffer getPhysicalAddress = refl
-effect-as-before st v buffer (getBlockSize b) = refl
-effect-as-before st v buffer (read b o data') = refl
-effect-as-before st v buffer (write b o new) = refl
-effect-as-before st v buffer (eraseBlocks list) = refl
+effect-as-before st v buffer getAttributes₁ = refl
+effect-as-before st v buffer (setAttributes₁ new) = refl
+effect-as-before st v buffer getPhysicalAddress₁ = refl
+effect-as-before st v buffer (getBlockSize₁ b) = refl
+effect-as-before st v buffer (read₁ b o data') = refl
+effect-as-before st v buffer (write₁ b o new) = refl
+effect-as-before st v buffer (eraseBlocks₁ list) = refl
 
-pub step-as-before : (st : State) (v : List ℕ) (c : Call) → st .edition ≡ 1 → resultWithout (step st v c) ≡ step₁ (withoutEdition st) v c
+-- the reader's buffer is the call's own
+buffer-as-before : (c : Call₁) → bufferOf (today c) ≡ bufferOf₁ c
+unfolding bufferOf
+buffer-as-before getAttributes₁ = refl
+buffer-as-before (setAttributes₁ new) = refl
+buffer-as-before getPhysicalAddress₁ = refl
+buffer-as-before (getBlockSize₁ b) = refl
+buffer-as-before (read₁ b o buffer) = refl
+buffer-as-before (write₁ b o new) = refl
+buffer-as-before (eraseBlocks₁ list) = refl
+
+-- none of the seven calls protects blocks
+other-call : (c : Call₁) (first : ℕ) → today c ≡ protectBlocks first → ⊥
+other-call getAttributes₁ first e = let z : _≡_ {A = ℕ} 0 1 = cc in omega arith
+other-call (setAttributes₁ new) first e = let z : _≡_ {A = ℕ} 0 1 = cc in omega arith
+other-call getPhysicalAddress₁ first e = let z : _≡_ {A = ℕ} 0 1 = cc in omega arith
+other-call (getBlockSize₁ b) first e = let z : _≡_ {A = ℕ} 0 1 = cc in omega arith
+other-call (read₁ b o buffer) first e = let z : _≡_ {A = ℕ} 0 1 = cc in omega arith
+other-call (write₁ b o new) first e = let z : _≡_ {A = ℕ} 0 1 = cc in omega arith
+other-call (eraseBlocks₁ list) first e = let z : _≡_ {A = ℕ} 0 1 = cc in omega arith
+
+-- the result is as before
+pub step-as-before : (st : State) (v : List ℕ) (c : Call₁) → st .edition ≡ 1 → st .protected ≡ blocks (mapOf st)
+    → formerResult (step st v (today c)) ≡ step₁ (former st) v c
 unfolding step decide perform
-step-as-before st v c e = rw (refusals-as-before st (length v) c e) (go (firstRefusal (refusals₁ (withoutEdition st) (length v) c)))
+step-as-before st v c e p = rw (refused-as-before st (length v) c e p, buffer-as-before c) (go (firstRefusal (refusals₁ (former st) (length v) c)))
   where
     go : (o : Option ℕ)
-        → resultWithout (perform st v (bufferOf c) (unlessRefused (λ n. reply (refused n)) o (effect st c)))
-        ≡ perform₁ (withoutEdition st) v (bufferOf c) (unlessRefused (λ n. reply₁ (refused n)) o (effect₁ (withoutEdition st) c))
-    go none = effect-as-before st v (bufferOf c) c
+        → formerResult (perform st v (bufferOf₁ c) (unlessRefused (λ n. reply (refused n)) o (effect st (today c))))
+        ≡ perform₁ (former st) v (bufferOf₁ c) (unlessRefused (λ n. reply₁ (refused n)) o (effect₁ (former st) c))
+    go none = effect-as-before st v (bufferOf₁ c) c
     go (some n) = refl
+
+-- and the state afterwards is one of edition 1 and unprotected again, so that the next call is as before too
+pub state-as-before : (st : State) (v : List ℕ) (c : Call₁) → st .edition ≡ 1 → st .protected ≡ blocks (mapOf st)
+    → (step st v (today c) .state .edition ≡ 1) × (step st v (today c) .state .protected ≡ blocks (mapOf (step st v (today c) .state)))
+state-as-before st v c e p =
+    (edition-kept st v (today c) ∙ e, protection-kept st v (today c) (other-call c) ∙ p ∙ sym (ap blocks (map-kept st v (today c))))

@@ -2,16 +2,16 @@
 -- `step st v c` is the call c on the state st and the lent volume v; its result has the answer, and the state, the volume and the reader's buffer
 -- afterwards. The proofs are citations; the laws stand under the module of src/ that they serve.
 use Prim.Native.Nat.{ℕ, _+_, _-_, _*_, _/_, _%_, _^_, _≤_, _<_}
-use mathlib.Core.Bool.{true, false}
+use mathlib.Core.Bool.{true, false, not}
 use mathlib.Core.List.{List, [], _∷_, _++_}
 use mathlib.Core.Option.{some}
 use mathlib.Core.Path.{_≡_, sym}
 use lib.Bits.{bitAnd, bitOr}
-use lib.Dec.{T}
+use lib.Dec.{T, leb}
 use lib.ListN.{length, getD, take, drop}
 use Rattle.common.specs.Answers.{refused, success}
 use Rattle.common.specs.Lists.{edit}
-use Rattle.common.specs.Refusals.{firstRefusal}
+use Rattle.common.specs.Refusals.{firstRefusal, row}
 use Rattle.common.proofs.Bits.{bit}
 use Rattle.volume.specs.Attributes.{flag, readStatus, writeStatus, lockStatus, readLockStatus, writeLockStatus, stickyWrite, memoryMapped, erasePolarity}
 use Rattle.volume.specs.BlockMap.{blocks}
@@ -19,18 +19,20 @@ use Rattle.volume.specs.State.{mapOf, unlawful}
 use Rattle.volume.specs.declared.state.State.{State}
 use Rattle.block_service.specs.Access.{countMoved, writtenByte, erasedByte, changedByte, writeChange}
 use Rattle.block_service.specs.Blocks.{place, HasLength, startOf, consecutiveBlocks, inBlock}
-use Rattle.block_service.specs.Erase.{endOfList, goodList, names, eraseChange}
-use Rattle.block_service.specs.Service.{Call, getAttributes, getPhysicalAddress, setAttributes, getBlockSize, read, write, eraseBlocks}
-use Rattle.block_service.specs.Service.{refusals, moveAnswer, withAttributes, result, bufferOf, step}
+use Rattle.block_service.specs.Erase.{endOfList, goodList, names, reaches, eraseChange}
+use Rattle.block_service.specs.Service.{Call, getAttributes, getPhysicalAddress, setAttributes, getBlockSize, read, write, eraseBlocks, protectBlocks}
+use Rattle.block_service.specs.Service.{lentRefusals, refusals, moveAnswer, withAttributes, withProtected, result, bufferOf, step}
 use Rattle.block_service.specs.Settings.{statusBits, changesFixed, changesLocked, lacksCapability}
 use Rattle.block_service.specs.declared.blocks.Place.the-variants.{At}
 use Rattle.block_service.proofs.access.Moves as Moves
 use Rattle.block_service.proofs.blocks.Places as Places
+use Rattle.block_service.proofs.erase.Lists as Lists
 use Rattle.block_service.proofs.blocks.Runs as Runs
 use Rattle.block_service.proofs.settings.Rules as Rules
 use Rattle.block_service.proofs.service.Erasing as Erasing
 use Rattle.block_service.proofs.service.Kept as Kept
 use Rattle.block_service.proofs.service.Moving as Moving
+use Rattle.block_service.proofs.service.Protecting as Protecting
 use Rattle.block_service.proofs.service.Setting as Setting
 use Rattle.block_service.proofs.service.Sizes as Sizes
 use Rattle.block_service.proofs.service.Steps as Steps
@@ -90,6 +92,14 @@ pub order-2-size : (st : State) (v : List ℕ) (b : ℕ) → unlawful st ≡ fal
     → step st v (getBlockSize b) ≡ result (refused 2) st v []
 order-2-size = Steps.order-2-size
 
+-- then, "after every 2", 15 "for a protected block written or anywhere in the erase list" (02, j): with writes enabled, any write that starts in a protected
+-- block, one of no bytes too, and any good list that names one
+pub order-15-protected : (st : State) (v : List ℕ) → unlawful st ≡ false → st .length ≤ length v → flag (st .attributes) writeStatus ≡ true
+    → ((b o : ℕ) (new : List ℕ) → b < blocks (mapOf st) → st .protected ≤ b → step st v (write b o new) ≡ result (refused 15) st v [])
+    × ((list : List ℕ) → goodList (blocks (mapOf st)) list ≡ true → (b : ℕ) → T (names list b) → st .protected ≤ b
+    → step st v (eraseBlocks list) ≡ result (refused 15) st v [])
+order-15-protected = Steps.order-15-protected
+
 -- no row applies: with a lawful state, the volume lent whole, reads enabled and a block that is there, a read is not refused; it answers the count and
 -- fills the buffer by the block's place, and the state and the volume stay
 pub read-allowed : (st : State) (v : List ℕ) → unlawful st ≡ false → st .length ≤ length v → flag (st .attributes) readStatus ≡ true
@@ -101,9 +111,9 @@ pub read-allowed : (st : State) (v : List ℕ) → unlawful st ≡ false → st 
     (take (countMoved l o (length buffer)) (drop (s + o) v) ++ drop (countMoved l o (length buffer)) buffer)))
 read-allowed = Moving.read-allowed
 
--- with writes enabled neither is a write; it answers the count and changes the bytes of its stretch, and the state stays
+-- with writes enabled neither is a write, of a block that is not protected; it answers the count and changes the bytes of its stretch, and the state stays
 pub write-allowed : (st : State) (v : List ℕ) → unlawful st ≡ false → st .length ≤ length v → flag (st .attributes) writeStatus ≡ true
-    → (b o : ℕ) (new : List ℕ) → b < blocks (mapOf st)
+    → (b o : ℕ) (new : List ℕ) → b < st .protected
     → ((n : ℕ) → step st v (write b o new) .answer ≡ refused n → ⊥)
     × ((e : ℕ) × (s : ℕ) × (l : ℕ) × (r : ℕ) × (place (mapOf st) b ≡ At e s l r)
     × (step st v (write b o new)
@@ -111,9 +121,9 @@ pub write-allowed : (st : State) (v : List ℕ) → unlawful st ≡ false → st
     (edit (λ i old. changedByte (st .attributes) (writeChange (s + o) (countMoved l o (length new)) new i) old) 0 v) []))
 write-allowed = Moving.write-allowed
 
--- and an erase with a good list succeeds
+-- and an erase with a good list that names no protected block succeeds
 pub erase-allowed : (st : State) (v list : List ℕ) → unlawful st ≡ false → st .length ≤ length v → flag (st .attributes) writeStatus ≡ true
-    → goodList (blocks (mapOf st)) list ≡ true
+    → goodList (blocks (mapOf st)) list ≡ true → ((b : ℕ) → T (names list b) → b < st .protected)
     → step st v (eraseBlocks list)
     ≡ result (success []) st (edit (λ i old. changedByte (st .attributes) (eraseChange (mapOf st) list i) old) 0 v) []
 erase-allowed = Erasing.erase-allowed
@@ -373,6 +383,58 @@ pub write-lock-kept : (st : State) (v : List ℕ) (c : Call) → st .edition ≡
     → (flag (step st v c .state .attributes) writeLockStatus ≡ true) × (flag (step st v c .state .attributes) writeStatus ≡ flag (st .attributes) writeStatus)
 write-lock-kept = Kept.write-lock-kept
 
--- and in both editions a state whose settings are locked stays as it is, whatever is called
-pub locked-kept : (st : State) (v : List ℕ) (c : Call) → flag (st .attributes) lockStatus ≡ true → step st v c .state ≡ st
+-- and in both editions a state whose settings are locked stays as it is, whatever is called, but for its first protected block, which `protectBlocks` alone moves
+pub locked-kept : (st : State) (v : List ℕ) (c : Call) → flag (st .attributes) lockStatus ≡ true → step st v c .state ≡ withProtected st (step st v c .state .protected)
 locked-kept = Kept.locked-kept
+
+-- ---- protected blocks (02, j). Over whole runs: `protected-falls-run` and `protected-run` of isolation
+
+-- an erase list reaches into the blocks from block m on exactly where it names one of them
+pub reaches-names : (list : List ℕ) (m : ℕ) → reaches m list ≡ true → (b : ℕ) × (m ≤ b) × T (names list b)
+reaches-names = Lists.reaches-names
+
+pub names-reaches : (list : List ℕ) (m b : ℕ) → m ≤ b → T (names list b) → reaches m list ≡ true
+names-reaches = Lists.names-reaches
+
+-- "It may be lowered, never raised", of a lawful state: a first protected block above the present one is refused with 2
+pub protect-raised : (st : State) (v : List ℕ) (first : ℕ) → unlawful st ≡ false → st .protected < first → step st v (protectBlocks first) ≡ result (refused 2) st v []
+protect-raised = Protecting.protect-raised
+
+-- and any other is set, whatever the settings and their locks, and nothing else in the state changes
+pub protect-done : (st : State) (v : List ℕ) (first : ℕ) → unlawful st ≡ false → first ≤ st .protected
+    → step st v (protectBlocks first) ≡ result (success []) (withProtected st first) v []
+protect-done = Protecting.protect-done
+
+-- the one that is, too, and then nothing changes
+pub protected-as-it-is : (st : State) (v : List ℕ) → unlawful st ≡ false → step st v (protectBlocks (st .protected)) ≡ result (success []) st v []
+protected-as-it-is = Protecting.protected-as-it-is
+
+-- it stores nothing in the volume
+pub protect-stores-nothing : (st : State) (v : List ℕ) (first : ℕ) → step st v (protectBlocks first) .volume ≡ v
+protect-stores-nothing = Protecting.protect-stores-nothing
+
+-- "reads are free", of a lawful state: with more blocks protected, up to all, a read answers the same and fills the buffer with the same bytes
+pub read-free : (st : State) (v : List ℕ) (first : ℕ) → unlawful st ≡ false → first ≤ st .protected → (b o : ℕ) (buffer : List ℕ)
+    → let r = step st v (read b o buffer) in step (withProtected st first) v (read b o buffer) ≡ result (r .answer) (withProtected st first) v (r .buffer)
+read-free = Protecting.read-free
+
+-- no call raises the first protected block
+pub protected-falls : (st : State) (v : List ℕ) (c : Call) → step st v c .state .protected ≤ st .protected
+protected-falls = Kept.protected-falls
+
+-- and none but protecting blocks moves it
+pub protection-kept : (st : State) (v : List ℕ) (c : Call) → ((first : ℕ) → c ≡ protectBlocks first → ⊥) → step st v c .state .protected ≡ st .protected
+protection-kept = Kept.protection-kept
+
+-- and no call changes a byte of a protected block
+pub protected-kept : (st : State) (v : List ℕ) (c : Call) (b i : ℕ) → st .protected ≤ b → T (inBlock (mapOf st) b i) → getD (step st v c .volume) i 0 ≡ getD v i 0
+protected-kept = Kept.protected-kept
+
+-- where the first protected block is the number of blocks, as at opening, writes and erases are refused by the rows from before this request: 111, 5, 15 or 2
+pub unprotected-write : (st : State) (n : ℕ) → st .protected ≡ blocks (mapOf st) → (b o : ℕ) (new : List ℕ)
+    → firstRefusal (refusals st n (write b o new)) ≡ firstRefusal (lentRefusals st n writeStatus ++ (row (leb (blocks (mapOf st)) b) 2 ∷ []))
+unprotected-write = Erasing.unprotected-write
+
+pub unprotected-erase : (st : State) (n : ℕ) → st .protected ≡ blocks (mapOf st) → (list : List ℕ)
+    → firstRefusal (refusals st n (eraseBlocks list)) ≡ firstRefusal (lentRefusals st n writeStatus ++ (row (not (goodList (blocks (mapOf st)) list)) 2 ∷ []))
+unprotected-erase = Erasing.unprotected-erase

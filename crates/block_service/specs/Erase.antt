@@ -27,6 +27,14 @@ names (first ∷ count ∷ rest) b =
     let later = names rest b in
     not (eqb first endOfList) && (leb first b && ltb b (first + count) || later)
 
+-- the list names a block from block m on: a pair before the terminator covers one. In words: `reaches-names` and `names-reaches` (proofs/Theorems)
+unfoldable pub reaches : ℕ → List ℕ → Bool
+reaches m [] = false
+reaches m (first ∷ []) = false
+reaches m (first ∷ count ∷ rest) =
+    let later = reaches m rest in
+    not (eqb first endOfList) && (not (eqb count 0) && ltb m (first + count) || later)
+
 -- an erase of the blocks that the list names, in a volume with this block map
 unfoldable pub eraseChange : List ℕ → List ℕ → ℕ → ByteChange
 eraseChange map list i = cond (names list (blockAt map i)) erase keep

@@ -1,4 +1,4 @@
--- The block service (document 01): what each of the seven calls answers, and what it leaves in the state, in the volume and in the
+-- The block service (document 01, and document 02, j): what each of the eight calls answers, and what it leaves in the state, in the volume and in the
 -- reader's buffer. A call is decided from the state, the length of the lent volume and its arguments alone; only the effect that was
 -- decided on touches bytes.
 use Prim.Native.Nat.{ℕ, _+_}
@@ -16,14 +16,16 @@ use Rattle.volume.specs.State.{stateWith, mapOf, unlawful}
 use Rattle.volume.specs.declared.state.State.{State}
 use Rattle.block_service.specs.Access.{countMoved, ByteChange, changedByte, writeChange}
 use Rattle.block_service.specs.Blocks.{place, startOf, lengthOf, consecutiveBlocks}
-use Rattle.block_service.specs.Erase.{goodList, eraseChange}
+use Rattle.block_service.specs.Erase.{goodList, reaches, eraseChange}
 use Rattle.block_service.specs.Settings.{settingRefusals}
+use Rattle.block_service.specs.declared.check.Check
 use Rattle.block_service.specs.declared.service.Settings
 use Rattle.block_service.specs.declared.service.Address
 use Rattle.block_service.specs.declared.service.BlockSize
 use Rattle.block_service.specs.declared.service.Moved
 use Rattle.block_service.specs.declared.service.Erased
-use Rattle.block_service.specs.declared.service.Lent
+use Rattle.block_service.specs.declared.service.Protection
+use Rattle.block_service.specs.declared.service.Reach
 
 -- the answer that each case of the calls' enums stands for
 unfoldable pub settingsAnswer : Settings.Settings → Answer
@@ -47,7 +49,12 @@ unfoldable pub erasedAnswer : Erased.Erased → Answer
 erasedAnswer Erased.the-variants.Success = success []
 erasedAnswer (Erased.the-variants.Refused n) = refused n
 
--- the seven calls with their arguments: a read comes with its buffer, a write with its data, an erase with its list
+unfoldable pub protectionAnswer : Protection.Protection → Answer
+protectionAnswer Protection.the-variants.Success = success []
+protectionAnswer (Protection.the-variants.Refused n) = refused n
+
+-- the eight calls with their arguments: a read comes with its buffer, a write with its data, an erase with its list. `protectBlocks` sets the first
+-- protected block (document 02, j: the mark)
 pub data Call : Type 0 where
   getAttributes : Call
   setAttributes : ℕ → Call
@@ -56,6 +63,7 @@ pub data Call : Type 0 where
   read : ℕ → ℕ → List ℕ → Call
   write : ℕ → ℕ → List ℕ → Call
   eraseBlocks : List ℕ → Call
+  protectBlocks : ℕ → Call
 
 -- the refusals that the calls begin with to which a volume of n bytes is lent, first that applies: 111, then 5, then 15 where the
 -- status (reads or writes are enabled) is off
@@ -67,15 +75,19 @@ lentRefusals st n status =
     ∷ []
 
 -- the refusals of a call on a lent volume of n bytes, first that applies: 111, then 5 (calls that are lent the volume), then 15, then 2,
--- except as said for settings; the base address 111, then 3
+-- except as said for settings; the base address 111, then 3. By 02, j: "15 for a protected block written or anywhere in the erase list, after every 2";
+-- setting the first protected block "gives 111, then 2 for raising it, nothing else"
 unfoldable pub refusals : State → ℕ → Call → List Row
 refusals st n getAttributes = row (unlawful st) 111 ∷ []
 refusals st n (setAttributes new) = row (unlawful st) 111 ∷ settingRefusals (st .edition) (st .attributes) new
 refusals st n getPhysicalAddress = row (unlawful st) 111 ∷ row (not (flag (st .attributes) memoryMapped)) 3 ∷ []
 refusals st n (getBlockSize block) = row (unlawful st) 111 ∷ row (leb (blocks (mapOf st)) block) 2 ∷ []
 refusals st n (read block offset buffer) = lentRefusals st n readStatus ++ (row (leb (blocks (mapOf st)) block) 2 ∷ [])
-refusals st n (write block offset new) = lentRefusals st n writeStatus ++ (row (leb (blocks (mapOf st)) block) 2 ∷ [])
-refusals st n (eraseBlocks list) = lentRefusals st n writeStatus ++ (row (not (goodList (blocks (mapOf st)) list)) 2 ∷ [])
+refusals st n (write block offset new) =
+    lentRefusals st n writeStatus ++ (row (leb (blocks (mapOf st)) block) 2 ∷ row (leb (st .protected) block) 15 ∷ [])
+refusals st n (eraseBlocks list) =
+    lentRefusals st n writeStatus ++ (row (not (goodList (blocks (mapOf st)) list)) 2 ∷ row (reaches (st .protected) list) 15 ∷ [])
+refusals st n (protectBlocks first) = row (unlawful st) 111 ∷ row (ltb (st .protected) first) 2 ∷ []
 
 -- what a call does: it only answers; it answers with another state; it copies `count` bytes of the volume from byte `at` on to the start of
 -- the reader's buffer; or it changes bytes of the volume, each by its number
@@ -91,7 +103,11 @@ moveAnswer count n = cond (eqb count n) (success (count ∷ [])) (short (count �
 
 -- the state with other attributes
 unfoldable pub withAttributes : State → ℕ → State
-withAttributes st a = stateWith (st .guid) (st .length) a (st .base) (st .edition) (st .entries) (st .map)
+withAttributes st a = stateWith (st .guid) (st .length) a (st .base) (st .edition) (st .protected) (st .entries) (st .map)
+
+-- the state with another first protected block
+unfoldable pub withProtected : State → ℕ → State
+withProtected st first = stateWith (st .guid) (st .length) (st .attributes) (st .base) (st .edition) first (st .entries) (st .map)
 
 -- what a call that is not refused does
 unfoldable pub effect : State → Call → Effect
@@ -108,6 +124,7 @@ effect st (write block offset new) =
     let count = countMoved (lengthOf found) offset (length new) in
     change (writeChange (startOf found + offset) count new) (moveAnswer count (length new))
 effect st (eraseBlocks list) = change (eraseChange (mapOf st) list) (success [])
+effect st (protectBlocks first) = setTo (withProtected st first) (success [])
 
 -- what a call does, from the state, the length of the lent volume and the arguments
 unfoldable pub decide : State → ℕ → Call → Effect
@@ -140,12 +157,21 @@ bufferOf (getBlockSize block) = []
 bufferOf (read block offset buffer) = buffer
 bufferOf (write block offset new) = []
 bufferOf (eraseBlocks list) = []
+bufferOf (protectBlocks first) = []
 
 -- a call on a state and a volume
 unfoldable pub step : State → List ℕ → Call → Result
 step st volume call = perform st volume (bufferOf call) (decide st (length volume) call)
 
--- private to the code's contracts: the refusal, if any, that a read, a write or an erase begins with
-unfoldable pub refusalOf : Lent.Lent → Option ℕ
-refusalOf Lent.the-variants.Allowed = none
-refusalOf (Lent.the-variants.Refused n) = some n
+-- private to the code's contracts: the refusal, if any, that a test of some rows of a table gives
+unfoldable pub refusalOf : Check.Check → Option ℕ
+refusalOf Check.the-variants.Allowed = none
+refusalOf (Check.the-variants.Refused n) = some n
+
+-- private to the code's contracts: where the block of a read or a write lies, or what refuses it; blocks from the limit on are kept from the call
+unfoldable pub reachOf : State → ℕ → ℕ → ℕ → ℕ → Reach.Reach
+reachOf st n status limit block =
+    let found = place (mapOf st) block in
+    unlessRefused (λ number. Reach.the-variants.Refused number)
+    (firstRefusal (lentRefusals st n status ++ (row (leb (blocks (mapOf st)) block) 2 ∷ row (leb limit block) 15 ∷ [])))
+    (Reach.the-variants.At (startOf found) (lengthOf found))

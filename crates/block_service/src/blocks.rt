@@ -61,21 +61,6 @@ pub(crate) fn find_block(words: &[u32], block: u64) -> Place
     }
 }
 
-// The number of blocks of a map's words.
-pub(crate) fn block_count(words: &[u32]) -> usize
-    requires { ⌜ blocks (now words) ≤ maxBlocks ⌝ }
-    ensures { λ r. ⌜ r ≡ blocks (now (words .entry)) ⌝ }
-{
-    let entries = words.len() / 2;
-    let mut count: usize = 0;
-    let mut entry = 0;
-    while entry < entries {
-        count += wide(words[2 * entry]) as usize;
-        entry += 1;
-    }
-    count
-}
-
 // The number of blocks of this length with which the entries after an entry begin: those of the entries before the first
 // of another length.
 pub(crate) fn equal_blocks(words: &[u32], entry: usize, len: usize) -> usize

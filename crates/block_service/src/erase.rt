@@ -1,60 +1,65 @@
 // Erasing the blocks that a list names.
 ghost use mathlib.Core.Bool.{true, not, cond, _&&_};
+ghost use mathlib.Core.List.{[], _∷_};
 ghost use mathlib.Core.Path.{_≡_};
 ghost use Prim.Native.Nat.{_+_, _≤_, _<_};
 ghost use lib.Dec.{eqb, leb, ltb};
 ghost use lib.ListN.{length};
-ghost use Rattle.volume.specs.BlockMap.{blocks, bytes, maxBlocks, maxLength};
+ghost use Rattle.common.specs.Refusals.{firstRefusal, row};
+ghost use Rattle.volume.specs.BlockMap.{blocks, bytes, maxLength};
 ghost use Rattle.block_service.specs.Blocks.{blockAt};
 ghost use Rattle.block_service.specs.Access.{erasedByte};
-ghost use Rattle.block_service.specs.Erase.{goodList, names};
+ghost use Rattle.block_service.specs.Erase.{goodList, names, reaches};
+ghost use Rattle.block_service.specs.Service.{refusalOf};
 ghost use Rattle.common.specs.Lists.{edit};
 use crate::blocks::Place;
-use crate::blocks::block_count;
 use crate::blocks::find_block;
 use crate::blocks::run_end;
+use crate::check::Check;
 use volume::attributes::ERASE_POLARITY;
 use volume::attributes::is_set;
 
 // The word that ends an erase list, where a first block would stand.
 pub const END_OF_LIST: u64 = 0xFFFFFFFFFFFFFFFF;
 
-// Erases the blocks that a list names, and says so, where the list is good; otherwise no byte changes. The whole
-// list is verified before a byte is stored.
-pub(crate) fn erase_good(words: &[u32], volume: &mut [u8], list: &[u64], value: u8) -> bool
-    requires { ⌜ blocks (now words) ≤ maxBlocks ⌝ }
-    requires { ⌜ bytes (now words) ≤ maxLength ⌝ }
-    requires { ⌜ bytes (now words) ≤ length (now volume) ⌝ }
-    ensures { λ r. ⌜ r ≡ goodList (blocks (now (words .entry))) (now (list .entry)) ⌝ }
-    ensures { λ r. ⌜ now (volume .exit) ≡ cond r (edit (λ i old. cond (names (now (list .entry)) (blockAt (now (words .entry)) i)) value old) 0 (now (volume .entry))) (now (volume .entry)) ⌝ }
+// The refusals of an erase list for so many blocks: 2 where it has no terminator or a pair before it does not fit, then 15
+// where a pair names a protected block. One pass over the list.
+pub(crate) fn list_refusal(total: u64, protected: u64, list: &[u64]) -> Check
+    ensures { λ r. ⌜ refusalOf r ≡ firstRefusal (row (not (goodList total (now (list .entry)))) 2 ∷ row (reaches protected (now (list .entry))) 15 ∷ []) ⌝ }
 {
-    let total = block_count(words);
-    if good_list(total as u64, list) {
-        erase_list(words, volume, list, value);
-        return true;
-    }
-    false
-}
-
-// Whether an erase list is good for so many blocks: it has its terminator, and every pair before it fits.
-fn good_list(total: u64, list: &[u64]) -> bool
-    ensures { λ r. ⌜ r ≡ goodList total (now (list .entry)) ⌝ }
-{
+    let mut reached = false;
     let mut i = 0;
     while i + 1 < list.len() {
         let first = list[i];
         if first == END_OF_LIST {
-            return true;
+            return list_verdict(false, reached);
         }
-        if !pair_fits(total, first, list[i + 1]) {
-            return false;
+        let count = list[i + 1];
+        if !pair_fits(total, first, count) {
+            return list_verdict(true, reached);
+        }
+        if protected < first + count {
+            reached = true;
         }
         i += 2;
     }
     if i < list.len() {
-        return list[i] == END_OF_LIST;
+        return list_verdict(list[i] != END_OF_LIST, reached);
     }
-    false
+    list_verdict(true, reached)
+}
+
+// What is said of a list that is bad or not, and that reached a protected block or not: 15 comes after every 2.
+fn list_verdict(bad: bool, reached: bool) -> Check
+    ensures { λ r. ⌜ refusalOf r ≡ firstRefusal (row bad 2 ∷ row reached 15 ∷ []) ⌝ }
+{
+    if bad {
+        return Check::Refused(2);
+    }
+    if reached {
+        return Check::Refused(15);
+    }
+    Check::Allowed
 }
 
 // Whether a pair of first block and count names blocks, and only such as are there. The sum of the two is never formed, so
@@ -72,7 +77,7 @@ fn pair_fits(total: u64, first: u64, count: u64) -> bool
 }
 
 // Erases the blocks that a good list names.
-fn erase_list(words: &[u32], volume: &mut [u8], list: &[u64], value: u8)
+pub(crate) fn erase_list(words: &[u32], volume: &mut [u8], list: &[u64], value: u8)
     requires { ⌜ bytes (now words) ≤ maxLength ⌝ }
     requires { ⌜ bytes (now words) ≤ length (now volume) ⌝ }
     requires { ⌜ goodList (blocks (now words)) (now list) ≡ true ⌝ }

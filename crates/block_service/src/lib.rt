@@ -5,6 +5,7 @@
 // and changes no lent byte and no state.
 mod access;
 pub mod blocks;
+mod check;
 pub mod erase;
 pub mod service;
 mod settings;
@@ -14,12 +15,15 @@ pub use crate::service::Address;
 pub use crate::service::BlockSize;
 pub use crate::service::Erased;
 pub use crate::service::Moved;
+pub use crate::service::NewProtection;
 pub use crate::service::NewSettings;
+pub use crate::service::Protection;
 pub use crate::service::Settings;
 pub use crate::service::erase_blocks;
 pub use crate::service::get_attributes;
 pub use crate::service::get_block_size;
 pub use crate::service::get_physical_address;
+pub use crate::service::protect_blocks;
 pub use crate::service::read;
 pub use crate::service::set_attributes;
 pub use crate::service::write;

@@ -1,4 +1,4 @@
-// The block service: the seven calls over a state and the volume bytes that the caller lends.
+// The block service: the eight calls over a state and the volume bytes that the caller lends.
 //
 // Every call answers every state and every argument. The answer, the state afterwards, and the whole
 // contents of the volume and of the reader's buffer afterwards are those of `step` in specs/Service. A call
@@ -9,9 +9,9 @@ ghost use mathlib.Core.Path.{_≡_};
 ghost use Prim.Native.Nat.{ℕ};
 ghost use Rattle.common.specs.Refusals.{firstRefusal};
 ghost use Rattle.volume.specs.State.{stateWith};
-ghost use Rattle.block_service.specs.Service.{step, result, settingsAnswer, addressAnswer, blockSizeAnswer, movedAnswer, erasedAnswer};
-ghost use Rattle.block_service.specs.Service.{getAttributes, setAttributes, getPhysicalAddress, getBlockSize, eraseBlocks};
-ghost use Rattle.block_service.specs.Service.{lentRefusals, refusalOf, moveAnswer};
+ghost use Rattle.block_service.specs.Service.{step, result, settingsAnswer, addressAnswer, blockSizeAnswer, movedAnswer, erasedAnswer, protectionAnswer};
+ghost use Rattle.block_service.specs.Service.{getAttributes, setAttributes, getPhysicalAddress, getBlockSize, eraseBlocks, protectBlocks};
+ghost use Rattle.block_service.specs.Service.{lentRefusals, reachOf, refusalOf, moveAnswer};
 ghost use Rattle.block_service.specs.Service as Calls;
 use crate::access::count_moved;
 use crate::access::load;
@@ -19,8 +19,10 @@ use crate::access::store;
 use crate::blocks::Place;
 use crate::blocks::equal_blocks;
 use crate::blocks::locate;
-use crate::erase::erase_good;
+use crate::check::Check;
+use crate::erase::erase_list;
 use crate::erase::erased_byte;
+use crate::erase::list_refusal;
 use crate::settings::changes_fixed;
 use crate::settings::changes_locked;
 use crate::settings::lacks_capability;
@@ -29,6 +31,7 @@ use volume::attributes::MEMORY_MAPPED;
 use volume::attributes::READ_STATUS;
 use volume::attributes::WRITE_STATUS;
 use volume::attributes::is_set;
+use volume::block_map::block_count;
 use volume::state::unlawful_state;
 
 // Settings, as they are or as they were set.
@@ -68,6 +71,18 @@ pub enum Erased {
     Refused(u16),
 }
 
+// Whether the first protected block was set.
+pub enum Protection {
+    Success,
+    Refused(u16),
+}
+
+// What protecting blocks answers, and the state afterwards.
+pub struct NewProtection {
+    pub answer: Protection,
+    pub state: State,
+}
+
 // Reads the settings. Refused with 111.
 pub fn get_attributes(st: State) -> Settings
     ensures { λ r. ⌜ ((v : List ℕ) → result (settingsAnswer r) st v [] ≡ step st v getAttributes) ⌝ }
@@ -78,6 +93,7 @@ pub fn get_attributes(st: State) -> Settings
         st.attributes,
         st.base,
         st.edition,
+        st.protected,
         st.entries,
         &map,
     ) {
@@ -98,6 +114,7 @@ pub fn set_attributes(st: State, new: u32) -> NewSettings
         st.attributes,
         st.base,
         st.edition,
+        st.protected,
         st.entries,
         &map,
     ) {
@@ -143,6 +160,7 @@ pub fn get_physical_address(st: State) -> Address
         st.attributes,
         st.base,
         st.edition,
+        st.protected,
         st.entries,
         &map,
     ) {
@@ -165,6 +183,7 @@ pub fn get_block_size(st: State, block: u64) -> BlockSize
         st.attributes,
         st.base,
         st.edition,
+        st.protected,
         st.entries,
         &map,
     ) {
@@ -191,73 +210,64 @@ pub fn read(st: State, volume: &[u8], block: u64, offset: usize, buffer: &mut [u
     ensures { λ r. ⌜ result (movedAnswer r) st (now (volume .entry)) (now (buffer .exit)) ≡ step st (now (volume .entry)) (Calls.read block offset (now (buffer .entry))) ⌝ }
 {
     let map = st.map;
-    let first = lent_refusal(
+    let reached = reach_block(
         st.length,
         st.attributes,
         st.base,
         st.edition,
+        st.protected,
         st.entries,
         &map,
         volume.len() as u64,
         READ_STATUS,
+        NO_LIMIT,
+        block,
     );
-    if let Lent::Refused(number) = first {
-        return Moved::Refused(number);
+    match reached {
+        Reach::Refused(number) => Moved::Refused(number),
+        Reach::At { start, len } => {
+            let n = buffer.len();
+            let count = count_moved(len, offset, n);
+            load(volume, start, offset, buffer, count);
+            move_answer(count, n)
+        }
     }
-    let found = locate(st.entries, &map, block);
-    let Place::At {
-        entry: _,
-        start,
-        len,
-        left: _,
-    } = found
-    else {
-        return Moved::Refused(2);
-    };
-    let n = buffer.len();
-    let count = count_moved(len, offset, n);
-    load(volume, start, offset, buffer, count);
-    move_answer(count, n)
 }
 
 // Writes the data from an offset of a block on, by the volume's write rule; no byte outside that stretch of the block
-// changes. Refused with 111, 5, 15 (writes are disabled) or 2 (no such block), and then no byte changes.
+// changes. Refused with 111, 5, 15 (writes are disabled), 2 (no such block) or 15 (the block is protected), and then no
+// byte changes.
 pub fn write(st: State, volume: &mut [u8], block: u64, offset: usize, new: &[u8]) -> Moved
     ensures { λ r. ⌜ result (movedAnswer r) st (now (volume .exit)) [] ≡ step st (now (volume .entry)) (Calls.write block offset (now (new .entry))) ⌝ }
 {
     let map = st.map;
-    let first = lent_refusal(
+    let reached = reach_block(
         st.length,
         st.attributes,
         st.base,
         st.edition,
+        st.protected,
         st.entries,
         &map,
         volume.len() as u64,
         WRITE_STATUS,
+        st.protected,
+        block,
     );
-    if let Lent::Refused(number) = first {
-        return Moved::Refused(number);
+    match reached {
+        Reach::Refused(number) => Moved::Refused(number),
+        Reach::At { start, len } => {
+            let n = new.len();
+            let count = count_moved(len, offset, n);
+            store(st.attributes, volume, start, offset, new, count);
+            move_answer(count, n)
+        }
     }
-    let found = locate(st.entries, &map, block);
-    let Place::At {
-        entry: _,
-        start,
-        len,
-        left: _,
-    } = found
-    else {
-        return Moved::Refused(2);
-    };
-    let n = new.len();
-    let count = count_moved(len, offset, n);
-    store(st.attributes, volume, start, offset, new, count);
-    move_answer(count, n)
 }
 
 // Erases the blocks that a list names: pairs of first block and count, ended by END_OF_LIST. Refused with 111, 5, 15
-// (writes are disabled) or 2 (a bad list). The whole list is verified before a byte is stored, so that a refusal
-// changes none. Costs the list and, for each pair, a map scan and the bytes of its blocks.
+// (writes are disabled), 2 (a bad list) or 15 (a block of the list is protected). The whole list is verified before a byte
+// is stored, so that a refusal changes none. Costs the list and, for each pair, a map scan and the bytes of its blocks.
 pub fn erase_blocks(st: State, volume: &mut [u8], list: &[u64]) -> Erased
     ensures { λ r. ⌜ result (erasedAnswer r) st (now (volume .exit)) [] ≡ step st (now (volume .entry)) (eraseBlocks (now (list .entry))) ⌝ }
 {
@@ -267,25 +277,115 @@ pub fn erase_blocks(st: State, volume: &mut [u8], list: &[u64]) -> Erased
         st.attributes,
         st.base,
         st.edition,
+        st.protected,
         st.entries,
         &map,
         volume.len() as u64,
         WRITE_STATUS,
     );
-    if let Lent::Refused(number) = first {
+    if let Check::Refused(number) = first {
+        return Erased::Refused(number);
+    }
+    let total = block_count(st.entries, &map);
+    let second = list_refusal(total, st.protected, list);
+    if let Check::Refused(number) = second {
         return Erased::Refused(number);
     }
     let end = 2 * st.entries;
-    if erase_good(&map[..end], volume, list, erased_byte(st.attributes)) {
-        return Erased::Success;
-    }
-    Erased::Refused(2)
+    erase_list(&map[..end], volume, list, erased_byte(st.attributes));
+    Erased::Success
 }
 
-// What a read, a write and an erase begin with: they may go on, or are refused.
-enum Lent {
-    Allowed,
+// Protects the blocks from the first on: no call with the state that is answered, or with one that later calls make of it,
+// writes or erases one of them. The first protected block may be lowered, never raised. Refused with 111, or 2 where it
+// would be raised. No attribute and no lock is asked. Nothing is stored in the volume: an older copy of the state, and the
+// volume opened anew, know nothing of it.
+pub fn protect_blocks(st: State, first: u64) -> NewProtection
+    ensures { λ r. ⌜ ((v : List ℕ) → result (protectionAnswer (r .answer)) (r .state) v [] ≡ step st v (protectBlocks first)) ⌝ }
+{
+    let map = st.map;
+    if unlawful_state(
+        st.length,
+        st.attributes,
+        st.base,
+        st.edition,
+        st.protected,
+        st.entries,
+        &map,
+    ) {
+        return NewProtection {
+            answer: Protection::Refused(111),
+            state: st,
+        };
+    }
+    if st.protected < first {
+        return NewProtection {
+            answer: Protection::Refused(2),
+            state: st,
+        };
+    }
+    let mut next = st;
+    next.protected = first;
+    NewProtection {
+        answer: Protection::Success,
+        state: next,
+    }
+}
+
+// Reads are free: no block is kept from them.
+const NO_LIMIT: u64 = 0xFFFFFFFFFFFFFFFF;
+
+// Where the block lies that a read or a write starts in, or what refuses it.
+enum Reach {
+    At { start: usize, len: usize },
     Refused(u16),
+}
+
+// The block of a read or a write, for a state of these parts: refused with 111, 5, 15 (the status is off), 2 (no such block) or
+// 15 (the block is one from the limit on).
+fn reach_block(
+    length: u64,
+    attributes: u32,
+    base: u64,
+    edition: u32,
+    protected: u64,
+    entries: usize,
+    map: &[u32; 64],
+    volume_len: u64,
+    status: u32,
+    limit: u64,
+    block: u64,
+) -> Reach
+    ensures { λ r. ⌜ ((guid : List ℕ) → r ≡ reachOf (stateWith guid length attributes base edition protected entries (now (map .entry))) «volume_len» status limit block) ⌝ }
+{
+    let first = lent_refusal(
+        length,
+        attributes,
+        base,
+        edition,
+        protected,
+        entries,
+        map,
+        volume_len,
+        status,
+    );
+    if let Check::Refused(number) = first {
+        return Reach::Refused(number);
+    }
+    let found = locate(entries, map, block);
+    let Place::At {
+        entry: _,
+        start,
+        len,
+        left: _,
+    } = found
+    else {
+        return Reach::Refused(2);
+    };
+    if limit <= block {
+        return Reach::Refused(15);
+    }
+    Reach::At { start, len }
 }
 
 // The refusals that the calls begin with to which the volume is lent, for a state of these parts: 111, then 5 (fewer bytes
@@ -295,23 +395,24 @@ fn lent_refusal(
     attributes: u32,
     base: u64,
     edition: u32,
+    protected: u64,
     entries: usize,
     map: &[u32; 64],
     volume_len: u64,
     status: u32,
-) -> Lent
-    ensures { λ r. ⌜ ((guid : List ℕ) → refusalOf r ≡ firstRefusal (lentRefusals (stateWith guid len attributes base edition entries (now (map .entry))) «volume_len» status)) ⌝ }
+) -> Check
+    ensures { λ r. ⌜ ((guid : List ℕ) → refusalOf r ≡ firstRefusal (lentRefusals (stateWith guid len attributes base edition protected entries (now (map .entry))) «volume_len» status)) ⌝ }
 {
-    if unlawful_state(len, attributes, base, edition, entries, map) {
-        return Lent::Refused(111);
+    if unlawful_state(len, attributes, base, edition, protected, entries, map) {
+        return Check::Refused(111);
     }
     if volume_len < len {
-        return Lent::Refused(5);
+        return Check::Refused(5);
     }
     if is_set(attributes, status) {
-        return Lent::Allowed;
+        return Check::Allowed;
     }
-    Lent::Refused(15)
+    Check::Refused(15)
 }
 
 // The answer to a move of `count` of n bytes.

@@ -61,6 +61,13 @@ pub row-passes : (t : Bool) (n : ℕ) (rest : List Row) (o : Option ℕ) → t �
 unfolding firstRefusal
 row-passes t n rest o e q = rw e q
 
+-- a last row that applies only where the one before it does never speaks
+pub idle-row : (a : List Row) (t u : Bool) (n m : ℕ) → (t ≡ false → u ≡ false) → firstRefusal (a ++ (row t n ∷ row u m ∷ [])) ≡ firstRefusal (a ++ (row t n ∷ []))
+unfolding firstRefusal
+idle-row [] true u n m h = refl
+idle-row [] false u n m h = rw (h refl)
+idle-row (r ∷ rest) t u n m h = rw (idle-row rest t u n m h)
+
 pub no-row : firstRefusal [] ≡ none
 unfolding firstRefusal
 no-row = refl

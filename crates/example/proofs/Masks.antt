@@ -11,7 +11,7 @@ use lib.Dec.{T, eqb, leb}
 use lib.ListN.{length, getD}
 use Rattle.common.specs.Answers.{Answer, refused, success, short}
 use Rattle.common.specs.Refusals.{row, firstRefusal}
-use Rattle.common.proofs.Refusals.{front-passed, row-passed}
+use Rattle.common.proofs.Refusals.{front-passed, row-passed, row-passes, no-row}
 use Rattle.volume.specs.Attributes.{writeStatus}
 use Rattle.volume.specs.BlockMap.{blocks}
 use Rattle.volume.specs.Header.{opened, openVolume}
@@ -23,10 +23,11 @@ use Rattle.block_service.specs.Erase.{endOfList, goodList, names}
 use Rattle.block_service.specs.Service.{Result, step, perform, effect, refusals, lentRefusals, moveAnswer, eraseBlocks, write}
 use Rattle.block_service.specs.declared.blocks.Place.the-variants.{At}
 use Rattle.block_service.proofs.Theorems.{written-erased}
+use Rattle.block_service.proofs.erase.Lists.{names-reaches}
 use Rattle.block_service.proofs.service.Erasing.{erase-named, empty-list}
 use Rattle.block_service.proofs.service.Kept.{length-kept}
 use Rattle.block_service.proofs.service.Moving.{write-named, write-in-block}
-use Rattle.block_service.proofs.service.Steps.{allowed-step, allowed-answers, begun, lent-none, passed, passed-erase, passed-success, passed-write, refused-changes-nothing}
+use Rattle.block_service.proofs.service.Steps.{allowed-step, allowed-answers, begun, lent-last, passed, passed-erase, erase-unprotected, passed-success, passed-write, refused-changes-nothing}
 use Rattle.example.specs.Mask.{Masked, masked, unlessRefusedBy, putMask}
 
 -- the list of one block names it
@@ -115,9 +116,22 @@ module _ (st : State) (v mask : List ℕ) (block n : ℕ)
   unfolding lentRefusals
   lawful-state = row-passed (row (unlawful st) 111) _ begins .0
 
+  -- a block that the erase may name is not protected
+  unprotected : block < blocks (mapOf st) → block < st .protected
+  unprotected below = go (leb (st .protected) block) refl
+    where
+      go : (t : Bool) → leb (st .protected) block ≡ t → block < st .protected
+      go true q =
+          let named = names-one block (λ z. omega (arith, begun st (length v) writeStatus begins .lawful .blocks)) in
+          let reached = names-reaches (block ∷ 1 ∷ endOfList ∷ []) (st .protected) block (leb-true _ _ q) named in
+          absurd (true≢false (sym reached ∙ erase-unprotected st (length v) (block ∷ 1 ∷ endOfList ∷ []) e))
+      go false q = leb-false _ _ q
+
   write-passes : block < blocks (mapOf st) → firstRefusal (refusals st (length erased) (write block 0 mask)) ≡ none
   unfolding refusals
-  write-passes below = rw (length-kept st v (eraseBlocks (block ∷ 1 ∷ endOfList ∷ []))) (lent-none st (length v) writeStatus _ begins (lt-leb _ _ below))
+  write-passes below =
+      rw (length-kept st v (eraseBlocks (block ∷ 1 ∷ endOfList ∷ [])))
+      (lent-last st (length v) writeStatus _ _ begins (lt-leb _ _ below) ∙ row-passes _ _ _ _ (lt-leb _ _ (unprotected below)) no-row)
 
   nothing-erased : step st erased (write block 0 mask) .answer ≡ refused n → erased ≡ v
   nothing-erased w = go (leb (blocks (mapOf st)) block) refl

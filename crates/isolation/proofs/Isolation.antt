@@ -16,7 +16,7 @@ use Rattle.volume.specs.BlockMap.{blocks}
 use Rattle.block_service.specs.Blocks.{place, inBlock, startOf, lengthOf}
 use Rattle.block_service.specs.Erase.{names, eraseChange}
 use Rattle.volume.specs.Header.{Opens, opened, openVolume}
-use Rattle.block_service.specs.Service.{Call, getAttributes, setAttributes, getPhysicalAddress, getBlockSize, read, write, eraseBlocks}
+use Rattle.block_service.specs.Service.{Call, getAttributes, setAttributes, getPhysicalAddress, getBlockSize, read, write, eraseBlocks, protectBlocks}
 use Rattle.block_service.specs.Service.{reply, refusals, effect, decide, moveAnswer, Result, perform, step}
 use Rattle.volume.specs.State.{mapOf, unlawful}
 use Rattle.block_service.specs.declared.blocks.Place.{Place}
@@ -92,6 +92,7 @@ erase-reaches st v (eraseBlocks list) b i t k =
     let p = both (names list b) (isSuccess (step st v (eraseBlocks list) .answer)) t in
     success-of (T (erasesByte (decide st (length v) (eraseBlocks list)) i)) (step st v (eraseBlocks list) .answer) (p .1)
     (λ values e. rw (allowed-effect st (length v) (eraseBlocks list) (passed-success st v (eraseBlocks list) values e)) (named-erased st list b i (p .0) k))
+erase-reaches st v (protectBlocks first) b i t k = absurd t
 
 -- a block that a run erased had every byte erased in it
 erased-bytes : (st : State) (v : List ℕ) (cs : List Call) (b i : ℕ) → T (erased st v cs b) → T (inBlock (mapOf st) b i) → T (erasedInRun st v cs i)
@@ -175,6 +176,7 @@ call-unread D st v (read b o buffer) h i t x =
     h b o buffer refl (subst D (in-one-block (mapOf st) (x .0) b i (x .2) (p .0)) (x .1)) (p .1)
 call-unread D st v (write b o new) h i t x = quiet st (length v) (write b o new) i (λ z. z) t
 call-unread D st v (eraseBlocks list) h i t x = quiet st (length v) (eraseBlocks list) i (λ z. z) t
+call-unread D st v (protectBlocks first) h i t x = quiet st (length v) (protectBlocks first) i (λ z. z) t
 
 -- a run that reads no block of the set before it was erased copies out no byte of one before it was erased
 unread : (D : ℕ → Type 0) (X : ℕ → Type 0) (st : State) (v : List ℕ) (cs : List Call) → ((i : ℕ) → X i → InBlocks (mapOf st) D i)
@@ -247,7 +249,7 @@ opened-run-lawful base st v before opening =
 -- ---- locks in runs (02, a)
 
 -- a run is its first calls and then the others
-run-append : (st : State) (v : List ℕ) (before after : List Call) → run st v (before ++ after) ≡ run (run st v before .state) (run st v before .volume) after
+pub run-append : (st : State) (v : List ℕ) (before after : List Call) → run st v (before ++ after) ≡ run (run st v before .state) (run st v before .volume) after
 unfolding run
 run-append st v [] after = refl
 run-append st v (c ∷ before) after = run-append (step st v c .state) (step st v c .volume) before after

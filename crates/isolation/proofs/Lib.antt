@@ -1,3 +1,4 @@
 pub mod Bytes
 pub mod Isolation
+pub mod Protection
 pub mod Theorems

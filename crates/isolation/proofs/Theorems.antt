@@ -1,16 +1,20 @@
 -- Demand 3, and what a reader of documents 01 and 02 may want to know of runs beside it: each theorem with the document's words. The proofs are citations.
-use Prim.Native.Nat.{ℕ}
+use Prim.Native.Nat.{ℕ, _≤_}
 use mathlib.Core.Path.{_≡_}
 use mathlib.Core.Bool.{true, false}
-use mathlib.Core.List.{List, _++_}
-use lib.ListN.{length}
+use mathlib.Core.List.{List, [], _∷_, _++_}
+use lib.Dec.{T}
+use lib.ListN.{length, getD}
+use Rattle.common.specs.Answers.{success}
 use Rattle.volume.specs.Attributes.{flag, readStatus, writeStatus, readLockStatus, writeLockStatus}
 use Rattle.volume.specs.Header.{opened, openVolume}
 use Rattle.volume.specs.State.{mapOf, unlawful}
 use Rattle.volume.specs.declared.state.State.{State}
-use Rattle.block_service.specs.Service.{Call}
+use Rattle.block_service.specs.Blocks.{inBlock}
+use Rattle.block_service.specs.Service.{Call, protectBlocks, step}
 use Rattle.isolation.specs.Runs.{run, Alike, NoEarlyRead, Isolated}
 use Rattle.isolation.proofs.Isolation as Isolation
+use Rattle.isolation.proofs.Protection as Protection
 
 -- "Take two volumes of equal lent length, opened to the same state, alike except inside certain blocks. Make on both the same list of block service
 -- calls. Suppose that on the first volume no read that starts in one of those blocks answers success or short unless an earlier erase naming that
@@ -46,3 +50,21 @@ write-locked-run = Isolation.write-locked-run
 -- no run changes the edition
 pub run-edition : (st : State) (v : List ℕ) (calls : List Call) → run st v calls .state .edition ≡ st .edition
 run-edition = Isolation.run-edition
+
+-- "It may be lowered, never raised" (02, j): from any moment of a run on, whatever is called, the first protected block is never above what it was
+pub protected-falls-run : (st : State) (v : List ℕ) (before after : List Call) → run st v (before ++ after) .state .protected ≤ run st v before .state .protected
+protected-falls-run = Protection.protected-falls-run
+
+-- "A tool erased the boot blocks and the camera came down off its pole": a block b that is protected at some moment of a run, after the calls `before`,
+-- keeps every byte i of it to the end, whatever calls come after. This is of every state, every volume and every list of calls, each of which gets the
+-- state that the one before left; opening the volume anew starts another run, with no block protected
+pub protected-run : (st : State) (v : List ℕ) (before after : List Call) (b i : ℕ) → run st v before .state .protected ≤ b → T (inBlock (mapOf st) b i)
+    → getD (run st v (before ++ after) .volume) i 0 ≡ getD (run st v before .volume) i 0
+protected-run = Protection.protected-run
+
+-- in other words: once the call that protects the blocks from `first` on has answered success, every byte of each of these blocks stays as it was then
+pub protect-run : (st : State) (v : List ℕ) (before after : List Call) (first : ℕ)
+    → step (run st v before .state) (run st v before .volume) (protectBlocks first) .answer ≡ success []
+    → (b i : ℕ) → first ≤ b → T (inBlock (mapOf st) b i)
+    → getD (run st v (before ++ (protectBlocks first ∷ after)) .volume) i 0 ≡ getD (run st v before .volume) i 0
+protect-run = Protection.protect-run

@@ -1,4 +1,4 @@
--- Runs of block service calls (document 00, demand 3; document 01, "Demand 3's list of calls"): any number of the seven calls, in any
+-- Runs of block service calls (document 00, demand 3; document 01, "Demand 3's list of calls", and document 02, j): any number of the eight calls, in any
 -- order, each taking the state and the volume bytes that the one before left. A run's step is `step`, which the calls' contracts cite.
 use Prim.Native.Nat.{ℕ}
 use mathlib.Core.Path.{_≡_}
@@ -9,7 +9,7 @@ use lib.ListN.{length, getD}
 use Rattle.common.specs.Answers.{Answer, refused, success, short}
 use Rattle.block_service.specs.Blocks.{inBlock}
 use Rattle.block_service.specs.Erase.{names}
-use Rattle.block_service.specs.Service.{Call, getAttributes, setAttributes, getPhysicalAddress, getBlockSize, read, write, eraseBlocks, step}
+use Rattle.block_service.specs.Service.{Call, getAttributes, setAttributes, getPhysicalAddress, getBlockSize, read, write, eraseBlocks, protectBlocks, step}
 use Rattle.volume.specs.State.{mapOf}
 use Rattle.volume.specs.declared.state.State.{State}
 
@@ -56,6 +56,7 @@ namesBlock (getBlockSize block) b = false
 namesBlock (read block offset buffer) b = false
 namesBlock (write block offset new) b = false
 namesBlock (eraseBlocks list) b = names list b
+namesBlock (protectBlocks first) b = false
 
 -- "A block is successfully erased once an erase in the list that names it has answered success."
 unfoldable pub erased : State → List ℕ → List Call → ℕ → Bool

@@ -17,7 +17,7 @@ use Rattle.block_service.specs.Access.{countMoved, writtenByte, erasedByte, wri
 use Rattle.volume.specs.Attributes.{knownEdition, attributesFault, baseFault}
 use Rattle.volume.specs.BlockMap.{blocks, bytes, hasZero, allZero, sizeFault}
 use Rattle.block_service.specs.Blocks.{inBlock, holds, place, placeFrom, startOf, lengthOf, blockAt}
-use Rattle.block_service.specs.Erase.{endOfList, goodList, names, eraseChange}
+use Rattle.block_service.specs.Erase.{endOfList, goodList, names, reaches, eraseChange}
 use Rattle.volume.specs.Header.{opened, openVolume, stateAt, wordsAt, wordSum, openRefusals, headerLengthFault, mapFault}
 use Rattle.block_service.specs.Service.{refusals, lentRefusals, moveAnswer, effect, decide, withAttributes, perform, bufferOf, Call, setAttributes, read, eraseBlocks, step}
 use Rattle.block_service.specs.Settings.{statusBits, changesFixed, raises, clears, breaksLock, changesLocked, lacksCapability, settingRefusals}
@@ -68,7 +68,7 @@ unfolding knownEdition attributesFault baseFault blocks bytes hasZero allZero si
 judging = tt
 
 moving : Unit {0}
-unfolding place placeFrom startOf lengthOf holds inBlock blockAt countMoved writtenByte goodList names erasedByte writeChange eraseChange changedByte edit
+unfolding place placeFrom startOf lengthOf holds inBlock blockAt countMoved writtenByte goodList names reaches erasedByte writeChange eraseChange changedByte edit
 moving = tt
 
 calling : Unit {0}

@@ -13,7 +13,7 @@ use Rattle.common.specs.Answers.{success}
 use Rattle.common.specs.Lists.{edit}
 use Rattle.block_service.specs.Access.{countMoved, writtenByte, erasedByte, changedByte}
 use Rattle.block_service.specs.Blocks.{inBlock, holds, place, placeFrom, startOf, lengthOf, blockAt}
-use Rattle.block_service.specs.Erase.{endOfList, goodList, names, eraseChange}
+use Rattle.block_service.specs.Erase.{endOfList, goodList, names, reaches, eraseChange}
 use Rattle.block_service.specs.Service.{lentRefusals, moveAnswer, Call, setAttributes, read, eraseBlocks, step}
 use Rattle.volume.specs.Header.{opened, openVolume}
 use Rattle.volume.specs.State.{mapOf}
@@ -25,7 +25,7 @@ use Rattle.table.proofs.Instances.{ReadsAllowed, allowed}
 
 -- everything that the run computes with
 moving : Unit {0}
-unfolding place placeFrom startOf lengthOf holds inBlock blockAt countMoved writtenByte goodList names erasedByte eraseChange changedByte edit
+unfolding place placeFrom startOf lengthOf holds inBlock blockAt countMoved writtenByte goodList names reaches erasedByte eraseChange changedByte edit
 moving = tt
 
 running : Unit {0}

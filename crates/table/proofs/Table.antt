@@ -12,9 +12,9 @@ use Rattle.block_service.specs.Access.{countMoved, writtenByte, erasedByte, wri
 use Rattle.volume.specs.Attributes.{knownEdition, attributesFault, baseFault}
 use Rattle.volume.specs.BlockMap.{blocks, bytes, hasZero, allZero, sizeFault}
 use Rattle.block_service.specs.Blocks.{place, placeFrom, startOf, lengthOf, blockAt}
-use Rattle.block_service.specs.Erase.{endOfList, goodList, names, eraseChange}
+use Rattle.block_service.specs.Erase.{endOfList, goodList, names, reaches, eraseChange}
 use Rattle.volume.specs.Header.{openVolume, opened, opens, stateAt, wordsAt, wordSum, runningSumsFrom, runningSums, openRefusals, headerLengthFault, mapFault}
-use Rattle.block_service.specs.Service.{refusals, lentRefusals, moveAnswer, effect, decide, withAttributes, perform, bufferOf, Result, Call, setAttributes, read, write, eraseBlocks, step}
+use Rattle.block_service.specs.Service.{refusals, lentRefusals, moveAnswer, effect, decide, withAttributes, withProtected, perform, bufferOf, Result, Call, setAttributes, read, write, eraseBlocks, step}
 use Rattle.block_service.specs.Settings.{statusBits, changesFixed, raises, clears, breaksLock, changesLocked, lacksCapability, settingRefusals}
 use Rattle.volume.specs.ExtendedHeader.{extOffset, extFault}
 use Rattle.volume.specs.State.{mapOf, stateOf, stateWith, zeroState, unlawful}
@@ -83,20 +83,20 @@ pub record Table : Type 0 where
   pub P13-none : searchOf stream 0x19 2 ≡ refused 14
 
 -- everything that the rows compute with: opening, the calls, and sections
-opening : Unit {0}
+unfoldable pub opening : Unit {0}
 unfolding headerA sampleA openVolume stateAt stateOf stateWith zeroState wordsAt wordSum openRefusals headerLengthFault mapFault extOffset extFault firstRefusal any le numberOf valuesOf
 opening = tt
 
-judging : Unit {0}
+unfoldable pub judging : Unit {0}
 unfolding knownEdition attributesFault baseFault blocks bytes hasZero allZero sizeFault mapOf unlawful settingRefusals statusBits changesFixed raises clears breaksLock changesLocked lacksCapability
 judging = tt
 
-moving : Unit {0}
-unfolding place placeFrom startOf lengthOf blockAt countMoved writtenByte goodList names erasedByte writeChange eraseChange changedByte edit
+unfoldable pub moving : Unit {0}
+unfolding place placeFrom startOf lengthOf blockAt countMoved writtenByte goodList names reaches erasedByte writeChange eraseChange changedByte edit
 moving = tt
 
-calling : Unit {0}
-unfolding refusals lentRefusals moveAnswer effect decide withAttributes perform bufferOf step
+unfoldable pub calling : Unit {0}
+unfolding refusals lentRefusals moveAnswer effect decide withAttributes withProtected perform bufferOf step
 calling = tt
 
 searching : Unit {0}

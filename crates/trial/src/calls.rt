@@ -15,11 +15,13 @@ use block_service::Address;
 use block_service::BlockSize;
 use block_service::Erased;
 use block_service::Moved;
+use block_service::Protection;
 use block_service::Settings;
 use block_service::erase_blocks;
 use block_service::get_attributes;
 use block_service::get_block_size;
 use block_service::get_physical_address;
+use block_service::protect_blocks;
 use block_service::read;
 use block_service::set_attributes;
 use block_service::write;
@@ -48,19 +50,20 @@ fn first_state(case: &[u8], volume: &[u8]) -> State {
     st
 }
 
-// A state as the script gives it: GUID, length, attributes, base, edition, entries, map words.
+// A state as the script gives it: GUID, length, attributes, base, edition, first protected block, entries, map words.
 fn given_state(given: &[u8]) -> State {
     let mut guid = [0u8; 16];
     store_bytes(&mut guid, 0, item(given, 0));
     let mut map = [0u32; 64];
-    words_of(item(given, 6), &mut map);
+    words_of(item(given, 7), &mut map);
     State {
         guid,
         length: number(given, 1),
         attributes: u32_at(item(given, 2), 0),
         base: number(given, 3),
         edition: u32_at(item(given, 4), 0),
-        entries: number(given, 5) as usize,
+        protected: number(given, 5),
+        entries: number(given, 6) as usize,
         map,
     }
 }
@@ -90,7 +93,8 @@ fn one_call(case: &[u8], call: &[u8], st: State, volume: &mut [u8]) -> State {
         3 => size_call(case, call, st),
         4 => read_call(case, call, st, volume),
         5 => write_call(case, call, st, volume),
-        _ => erase_call(case, call, st, volume),
+        6 => erase_call(case, call, st, volume),
+        _ => return protect_call(case, call, st),
     }
     st
 }
@@ -115,6 +119,20 @@ fn set_call(case: &[u8], call: &[u8], st: State) -> State {
     let set = set_attributes(st, u32_at(item(call, 1), 0));
     let answer = set.answer;
     settings_fields(answer);
+    let after = set.state;
+    state_fields(after);
+    after
+}
+
+fn protect_call(case: &[u8], call: &[u8], st: State) -> State {
+    begin(case, b"protect blocks");
+    field(number(call, 1));
+    let set = protect_blocks(st, number(call, 1));
+    let answer = set.answer;
+    match answer {
+        Protection::Success => field(0),
+        Protection::Refused(no) => field(no as u64),
+    }
     let after = set.state;
     state_fields(after);
     after
@@ -207,7 +225,7 @@ fn write_call(case: &[u8], call: &[u8], st: State, volume: &mut [u8]) {
 
 // An erase: the lent length, the list's words.
 fn erase_call(case: &[u8], call: &[u8], st: State, volume: &mut [u8]) {
-    let mut words = [0u64; 32];
+    let mut words = [0u64; 96];
     long_words_of(item(call, 2), &mut words);
     begin(case, b"erase blocks");
     erase_in(call, st, volume, &words);

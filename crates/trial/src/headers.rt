@@ -62,6 +62,7 @@ pub(crate) fn state_fields(st: State) {
     field(st.length);
     field(st.attributes as u64);
     field(st.edition as u64);
+    field(st.protected);
     field(st.entries as u64);
     field(st.base);
     let guid = st.guid;

@@ -1,18 +1,19 @@
 -- Edition 1 answers as before request a (02). The definitions of that time stand here word for word, each with ₁ behind its name, and each law says that of edition 1 today's
--- definition is the old one: rule 108, rule 111, opening's answer and state, the header's bytes and writing. A state of today without its edition is a state of that time.
-use Prim.Native.Nat.{ℕ, _-_, _*_, _%_}
+-- definition is the old one: rule 108, rule 111 (where the first protected block, which came with request j, is not past the number of blocks), opening's answer and state, the header's bytes and
+-- writing. A state of today without its edition and its first protected block is a state of that time.
+use Prim.Native.Nat.{ℕ, _-_, _*_, _%_, _≤_}
 use mathlib.Core.Bool.{Bool, true, false, not, _&&_, _||_, or-false}
 use mathlib.Core.List.{List, [], _∷_, _++_, map}
 use mathlib.Core.Option.{Option, none, some}
 use mathlib.Core.Path.{_≡_, refl, _∙_}
-use borrow.Author.Tests.{ne-eqb, eqb-true}
+use borrow.Author.Tests.{ne-eqb, eqb-true, le-ltb}
 use lib.Dec.{eqb, ltb}
 use lib.ListN.{length, take, drop, replicate}
 use Rattle.common.specs.Answers.{Answer, refused, success}
 use Rattle.common.specs.Refusals.{Row, row, firstRefusal, unlessRefused, any}
 use Rattle.numbers.specs.LittleEndian.{le, leBytes}
 use Rattle.volume.specs.Attributes.{knownEdition, flag, alignmentCap, alignments, attributesFault, baseFault}
-use Rattle.volume.specs.BlockMap.{entryLength, headerLength, hasZero, allZero, sizeFault}
+use Rattle.volume.specs.BlockMap.{entryLength, headerLength, blocks, hasZero, allZero, sizeFault}
 use Rattle.volume.specs.ExtendedHeader.{extOffset}
 use Rattle.volume.specs.Header.{guidAt, lengthAt, signatureAt, signature, attributesAt, revisionAt, mapStart, minHeader, headerLengthAt, entriesOf, wordsAt}
 use Rattle.volume.specs.Header.{headerLengthFault, wordModulus, wordSum, mapFault, stateAt, openRefusals, opens, opened, openVolume}
@@ -67,13 +68,13 @@ unlawful₁ st =
     ∷ not (allZero (drop (2 * st .entries) (st .map)))
     ∷ [])
 
--- a state without its edition
-abbrev pub withoutEdition : State → State₁
-withoutEdition st = stateWith₁ (st .guid) (st .length) (st .attributes) (st .base) (st .entries) (st .map)
+-- a state without its edition and its first protected block
+abbrev pub former : State → State₁
+former st = stateWith₁ (st .guid) (st .length) (st .attributes) (st .base) (st .entries) (st .map)
 
-pub unlawful-as-before : (st : State) → st .edition ≡ 1 → unlawful st ≡ unlawful₁ (withoutEdition st)
+pub unlawful-as-before : (st : State) → st .edition ≡ 1 → st .protected ≤ blocks (mapOf st) → unlawful st ≡ unlawful₁ (former st)
 unfolding unlawful mapOf any knownEdition
-unlawful-as-before st e = rw (e, attributes-as-before (st .attributes))
+unlawful-as-before st e p = rw (e, attributes-as-before (st .attributes), le-ltb (blocks (mapOf st)) (st .protected) p)
 
 -- ---- opening, of every byte string whose revision is not 2
 
@@ -128,14 +129,14 @@ rows-as-before s base other = go (eqb (revisionAt s) 1) refl
 
 -- the answer and the state are as before
 pub opening-as-before : (s : List ℕ) (base : ℕ) → (revisionAt s ≡ 2 → ⊥)
-    → (openVolume s base .answer ≡ openVolume₁ s base .answer) × (withoutEdition (openVolume s base .state) ≡ openVolume₁ s base .state)
+    → (openVolume s base .answer ≡ openVolume₁ s base .answer) × (former (openVolume s base .state) ≡ openVolume₁ s base .state)
 unfolding openVolume stateAt zeroState stateOf stateWith
 opening-as-before s base other = rw (rows-as-before s base other) (go (firstRefusal (openRefusals₁ s (stateAt₁ s base))))
   where
     go : (o : Option ℕ)
         → (unlessRefused (λ n. opens (refused n) zeroState) o (opened (stateAt s base)) .answer
         ≡ unlessRefused (λ n. opens₁ (refused n) zeroState₁) o (opened₁ (stateAt₁ s base)) .answer)
-        × (withoutEdition (unlessRefused (λ n. opens (refused n) zeroState) o (opened (stateAt s base)) .state)
+        × (former (unlessRefused (λ n. opens (refused n) zeroState) o (opened (stateAt s base)) .state)
         ≡ unlessRefused (λ n. opens₁ (refused n) zeroState₁) o (opened₁ (stateAt₁ s base)) .state)
     go none = (refl, refl)
     go (some n) = (refl, refl)

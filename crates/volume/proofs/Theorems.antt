@@ -11,10 +11,10 @@ use Rattle.common.specs.Refusals.{firstRefusal}
 use Rattle.common.proofs.Bits.{bit}
 use Rattle.numbers.specs.LittleEndian.{le}
 use Rattle.volume.specs.Attributes.{knownEdition, attributesFault, baseFault}
-use Rattle.volume.specs.BlockMap.{sizeFault}
+use Rattle.volume.specs.BlockMap.{blocks, sizeFault}
 use Rattle.volume.specs.ExtendedHeader.{minExtHeader, extOffset, extSizeAt, extEntryAt, entryFault, entryBefore, entriesFrom, Entry, entriesFaulty, extFault}
 use Rattle.volume.specs.ExtendedEntry.{entriesListed, extEntriesOf, extEntry}
-use Rattle.volume.specs.State.{stateOf, unlawful, zeroState}
+use Rattle.volume.specs.State.{mapOf, stateOf, unlawful, zeroState}
 use Rattle.volume.specs.Header.{lengthAt, revisionAt, headerLengthAt, wordSum, wordModulus, runningSums, stateAt, openRefusals, opens, opened, openVolume}
 use Rattle.volume.specs.HeaderWriter.{pairs, writeRefusals, wrote, writeHeader}
 use Rattle.volume.proofs.block_map.Words.{Sized}
@@ -69,6 +69,11 @@ limits = Words.size-passed
 pub opened-lawful : (v : List ℕ) (base : ℕ) → openVolume v base .answer ≡ success []
     → (unlawful (openVolume v base .state) ≡ false) × (openVolume v base .state .length ≤ length v)
 opened-lawful = Reading.opened-lawful
+
+-- no block of it is protected: the first protected block is "the number of blocks where none is, as at opening" (02, j)
+pub opened-unprotected : (v : List ℕ) (base : ℕ) → openVolume v base .answer ≡ success []
+    → openVolume v base .state .protected ≡ blocks (mapOf (openVolume v base .state))
+opened-unprotected = Reading.opened-unprotected
 
 -- the edition is the header's revision, and 1 or 2
 pub opened-edition : (v : List ℕ) (base : ℕ) → openVolume v base .answer ≡ success []

@@ -1,9 +1,9 @@
-// The rules of a block map's words: 106 and 107.
+// The rules of a block map's words, 106 and 107, and the number of its blocks, with 111's test of the first protected one.
 ghost use mathlib.Core.Path.{_≡_};
 ghost use Prim.Native.Nat.{_*_, _≤_};
 ghost use mathlib.Core.Bool.{not, _||_};
 ghost use lib.Dec.{eqb, ltb};
-ghost use lib.ListN.{length};
+ghost use lib.ListN.{length, take};
 ghost use Rattle.volume.specs.BlockMap.{hasZero, allZero, blocks, bytes, headerLength, maxEntries, maxBlocks, maxLength, sizeFault};
 use numbers::wide;
 
@@ -59,10 +59,36 @@ pub(crate) fn all_zero(words: &[u32]) -> bool
     gathered == 0
 }
 
+// The number of blocks of a state's map: the sum of its entries' counts. The map has room for MAX_ENTRIES entries; a
+// larger number of entries counts those.
+pub fn block_count(entries: usize, map: &[u32; 64]) -> u64
+    ensures { λ r. ⌜ r ≡ blocks (take (2 * entries) (now (map .entry))) ⌝ }
+{
+    let words: &[u32] = map;
+    let mut count: u64 = 0;
+    let mut i = 0;
+    while i < entries {
+        if MAX_ENTRIES <= i {
+            return count;
+        }
+        count += wide(words[2 * i]);
+        i += 1;
+    }
+    count
+}
+
 // Whether n entries with these words and a volume of `len` bytes break rule 106, by a zero word, or rule 107.
 pub(crate) fn map_fault(n: usize, words: &[u32], len: u64) -> bool
     requires { ⌜ length (now words) ≡ 2 * n ⌝ }
     ensures { λ r. ⌜ r ≡ (hasZero (now (words .entry)) || sizeFault n (now (words .entry)) len) ⌝ }
+{
+    protected_map_fault(n, words, len, 0)
+}
+
+// The same, or a first protected block past the number of blocks, as rule 111 has it: one pass over the entries for all three.
+pub(crate) fn protected_map_fault(n: usize, words: &[u32], len: u64, protected: u64) -> bool
+    requires { ⌜ length (now words) ≡ 2 * n ⌝ }
+    ensures { λ r. ⌜ r ≡ (hasZero (now (words .entry)) || (sizeFault n (now (words .entry)) len || ltb (blocks (now (words .entry))) protected)) ⌝ }
 {
     if n == 0 {
         return true;
@@ -76,14 +102,14 @@ pub(crate) fn map_fault(n: usize, words: &[u32], len: u64) -> bool
     if len < header_length(n) as u64 {
         return true;
     }
-    totals_fault(n, words, len)
+    totals_fault(n, words, len, protected)
 }
 
-// A zero word, too many blocks, or counts times lengths that don't total the length. The totals are true sums: 32 counts
-// and 32 sizes of at most 16,777,216 bytes fit 64 bits.
-fn totals_fault(n: usize, words: &[u32], len: u64) -> bool
+// A zero word, too many blocks, counts times lengths that don't total the length, or fewer blocks than the first protected
+// one. The totals are true sums: 32 counts and 32 sizes of at most 16,777,216 bytes fit 64 bits.
+fn totals_fault(n: usize, words: &[u32], len: u64, protected: u64) -> bool
     requires { ⌜ (length (now words) ≡ 2 * n) × (n ≤ maxEntries) × (len ≤ maxLength) ⌝ }
-    ensures { λ r. ⌜ r ≡ (hasZero (now (words .entry)) || (ltb maxBlocks (blocks (now (words .entry))) || not (eqb (bytes (now (words .entry))) len))) ⌝ }
+    ensures { λ r. ⌜ r ≡ (hasZero (now (words .entry)) || (ltb maxBlocks (blocks (now (words .entry))) || (not (eqb (bytes (now (words .entry))) len) || ltb (blocks (now (words .entry))) protected))) ⌝ }
 {
     let mut blocks_so_far: u64 = 0;
     let mut bytes_so_far: u64 = 0;
@@ -104,5 +130,8 @@ fn totals_fault(n: usize, words: &[u32], len: u64) -> bool
     if MAX_BLOCKS < blocks_so_far {
         return true;
     }
-    bytes_so_far != len
+    if bytes_so_far != len {
+        return true;
+    }
+    blocks_so_far < protected
 }

@@ -13,6 +13,7 @@ use crate::attributes::base_fault;
 use crate::attributes::edition_fault;
 use crate::block_map::EMPTY_HEADER;
 use crate::block_map::ENTRY_LENGTH;
+use crate::block_map::block_count;
 use crate::block_map::has_zero;
 use crate::block_map::map_fault;
 use crate::extended_header::ext_fault;
@@ -59,8 +60,8 @@ pub struct Opened {
     pub state: State,
 }
 
-// Opens a volume of either edition: answers the state that its header and the base address give, or the first of 101 to
-// 110 and 112 that applies. Only the header is read, and in edition 2 the extended header.
+// Opens a volume of either edition: answers the state that its header and the base address give, no block of it protected,
+// or the first of 101 to 110 and 112 that applies. Only the header is read, and in edition 2 the extended header.
 pub fn open_volume(volume: &[u8], base: u64) -> Opened
     ensures { λ r. ⌜ opens (openingAnswer (r .answer)) (r .state) ≡ openVolume (now (volume .entry)) base ⌝ }
 {
@@ -79,9 +80,19 @@ pub fn open_volume(volume: &[u8], base: u64) -> Opened
         return refuse(n);
     }
     let guid = guid_at(volume);
+    let protected = block_count(entries, &map);
     Opened {
         answer: Opening::Success,
-        state: state_with(guid, length, attributes, base, edition, entries, map),
+        state: state_with(
+            guid,
+            length,
+            attributes,
+            base,
+            edition,
+            protected,
+            entries,
+            map,
+        ),
     }
 }
 
@@ -91,7 +102,7 @@ fn refuse(n: u16) -> Opened
 {
     Opened {
         answer: Opening::Refused(n),
-        state: state_with([0; 16], 0, 0, 0, 0, 0, [0; 64]),
+        state: state_with([0; 16], 0, 0, 0, 0, 0, 0, [0; 64]),
     }
 }
 
@@ -118,8 +129,8 @@ fn bytes_refusal(s: &[u8]) -> Opening
     Opening::Success
 }
 
-// The table's other rows, 106 to 110 and 112, with the parts of what the state would be. The GUID has no part in them. The map is lent, so that
-// no state is copied to ask this.
+// The table's other rows, 106 to 110 and 112, with the parts of what the state would be. The GUID and the first protected block have no part in them.
+// The map is lent, so that no state is copied to ask this.
 fn fields_refusal(
     s: &[u8],
     len: u64,
@@ -130,7 +141,7 @@ fn fields_refusal(
     map: &[u32],
 ) -> Opening
     requires { ⌜ (2 * entries ≤ length (now map)) × (entryLength ≤ headerLengthAt (now s)) ⌝ }
-    ensures { λ r. ⌜ ((guid : List ℕ) → refusalOf r ≡ firstRefusal (drop 5 (openRefusals (now (s .entry)) (stateWith guid len attributes base edition entries (now (map .entry)))))) ⌝ }
+    ensures { λ r. ⌜ ((guid : List ℕ) (protected : ℕ) → refusalOf r ≡ firstRefusal (drop 5 (openRefusals (now (s .entry)) (stateWith guid len attributes base edition protected entries (now (map .entry)))))) ⌝ }
 {
     let end = 2 * entries;
     let closing = numbers::u16_at(s, HEADER_LENGTH) as usize - ENTRY_LENGTH;

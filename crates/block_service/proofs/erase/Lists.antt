@@ -1,18 +1,18 @@
 -- Laws of erase lists: a list from place i on, as a walk over its pairs meets it; and the erase of a run of blocks and of a whole list.
 use Prim.Native.Nat.{ℕ, suc, _+_, _-_, _≤_, _<_}
 use mathlib.Core.Path.{_≡_, refl, sym, _∙_}
-use mathlib.Core.Bool.{Bool, true, false, not, cond, _&&_, _||_, and-assoc}
+use mathlib.Core.Bool.{Bool, true, false, not, cond, _&&_, _||_, and-assoc, or-true, true≢false}
 use mathlib.Core.List.{List, [], _∷_, _++_}
 use native.Mathlib.Omega.{arith}
-use borrow.Author.Tests.{le-leb, lt-leb, ne-eqb, leb-true, leb-false, ltb-true, ltb-false, eqb-false}
-use lib.Dec.{leb, ltb, eqb}
+use borrow.Author.Tests.{le-leb, lt-leb, lt-ltb, le-ltb, ne-eqb, leb-true, leb-false, ltb-true, ltb-false, eqb-false}
+use lib.Dec.{T, leb, ltb, eqb}
 use lib.ListN.{length, getD, take, drop, length-drop, drop-of-length-le}
 use lib.Seq.{drop-cons}
 use Rattle.common.specs.Lists.{edit}
 use Rattle.common.proofs.Lists.{drop-two}
 use Rattle.volume.specs.BlockMap.{blocks}
 use Rattle.block_service.specs.Blocks.{blockAt, firstByte}
-use Rattle.block_service.specs.Erase.{endOfList, goodList, names}
+use Rattle.block_service.specs.Erase.{endOfList, goodList, names, reaches}
 use Rattle.common.proofs.Edit.{within, edit-part, edit-same, edit-keep, edit-edit}
 use Rattle.block_service.proofs.blocks.Places.{before-same, not-before-same}
 
@@ -29,6 +29,14 @@ fits-past n f c p q = rw (ne-eqb c 0 (λ z. omega arith), lt-leb (f + c) n (omeg
 
 pub fits-none : (n f c : ℕ) → c ≤ 0 → false ≡ (not (eqb c 0) && leb (f + c) n)
 fits-none n f c p = let z : c ≡ 0 = omega arith in rw z
+
+pub fits-known : (n f c : ℕ) (t : Bool) → t ≡ (not (eqb c 0) && leb (f + c) n) → t ≡ true → (0 < c) × (f + c ≤ n)
+fits-known n f c t q z = go (eqb c 0) refl (leb (f + c) n) refl (sym q ∙ z)
+  where
+    go : (x : Bool) → eqb c 0 ≡ x → (y : Bool) → leb (f + c) n ≡ y → (not x && y) ≡ true → (0 < c) × (f + c ≤ n)
+    go true ex y ey h = absurd (true≢false (sym h))
+    go false ex true ey h = let z = eqb-false c 0 ex in (omega arith, leb-true _ _ ey)
+    go false ex false ey h = absurd (true≢false (sym h))
 
 -- the list from place i on, where the terminator stands there
 module _ (w : List ℕ) (i : ℕ) (h : i < length w) (e : getD w i 0 ≡ endOfList) where
@@ -48,18 +56,31 @@ module _ (w : List ℕ) (i : ℕ) (h : i < length w) (e : getD w i 0 ≡ endOfLi
       go [] = refl
       go (c ∷ r) = refl
 
+  pub ends-reaches : (m : ℕ) → reaches m (drop i w) ≡ false
+  unfolding reaches
+  ends-reaches m = rw (drop-cons w i 0 h, e) (go (drop (suc i) w))
+    where
+      go : (r : List ℕ) → reaches m (endOfList ∷ r) ≡ false
+      go [] = refl
+      go (c ∷ r) = refl
+
 -- where no word stands there, or a last one that is no terminator
 pub past-list : (w : List ℕ) (i n : ℕ) → length w ≤ i → false ≡ goodList n (drop i w)
 unfolding goodList
 past-list w i n h = rw (drop-of-length-le w {i = i} h)
 
-pub last-word : (w : List ℕ) (i n : ℕ) → i < length w → length w ≤ i + 1 → eqb (getD w i 0) endOfList ≡ goodList n (drop i w)
-unfolding goodList
-last-word w i n h s = rw (drop-cons w i 0 h) (go (drop (suc i) w) (rw (length-drop (suc i) w) (omega arith)))
-  where
-    go : (r : List ℕ) → length r ≤ 0 → eqb (getD w i 0) endOfList ≡ goodList n (getD w i 0 ∷ r)
-    go [] p = refl
-    go (c ∷ r) p = absurd (omega arith)
+-- a last word alone: the list is good where it is the terminator, and reaches nothing
+module _ (w : List ℕ) (i : ℕ) (h : i < length w) (s : length w ≤ i + 1) where
+  one-word : drop i w ≡ getD w i 0 ∷ []
+  one-word = rw (drop-cons w i 0 h, drop-of-length-le w {i = suc i} (omega arith))
+
+  pub last-good : (n : ℕ) → eqb (getD w i 0) endOfList ≡ goodList n (drop i w)
+  unfolding goodList
+  last-good n = rw one-word
+
+  pub last-reaches : (m : ℕ) → reaches m (drop i w) ≡ false
+  unfolding reaches
+  last-reaches m = rw one-word
 
 odd-list : (w : List ℕ) (i n : ℕ) → i < length w → length w - i < 2 → (getD w i 0 ≡ endOfList → ⊥) → false ≡ goodList n (drop i w)
 unfolding goodList
@@ -96,6 +117,19 @@ module _ (w : List ℕ) (i f c : ℕ) (h : i + 1 < length w) (ef : f ≡ getD w 
       go true p true q k = absurd (let z : _≡_ {A = ℕ} 0 1 = cc in omega arith)
       go true p false q k = absurd (let z : _≡_ {A = ℕ} 0 1 = cc in omega arith)
       go false p false q k = absurd (let z : _≡_ {A = ℕ} 0 1 = cc in omega arith)
+
+  -- the list reaches block m where the pair, whose blocks are some, does, or the words after it do
+  pair-reaches : (m : ℕ) → 0 < c → reaches m (drop i w) ≡ (ltb m (f + c) || reaches m (drop (i + 2) w))
+  unfolding reaches
+  pair-reaches m p = rw (pair-words, ne-eqb f endOfList e, ne-eqb c 0 (λ z. omega arith))
+
+  -- so in a walk, where r says that a pair before reaches it: this one does, or what is left decides
+  module _ (m : ℕ) (p : 0 < c) (r whole : Bool) (q : (r || reaches m (drop i w)) ≡ whole) where
+    pub reach-hit : m < f + c → true ≡ whole
+    reach-hit h = sym (or-true r) ∙ (rw (pair-reaches m p, lt-ltb m (f + c) h) at q)
+
+    pub reach-miss : f + c ≤ m → (r || reaches m (drop (i + 2) w)) ≡ whole
+    reach-miss h = rw (pair-reaches m p, le-ltb m (f + c) h) at q
 
   -- a pair names its own blocks, and the words after it name theirs
   pair-names : (b : ℕ) → names (drop i w) b ≡ (leb f b && ltb b (f + c) || names (drop (i + 2) w) b)
@@ -152,3 +186,50 @@ erase-next m w i f c x v u h ef ec e p =
 -- at the terminator nothing is left to erase
 pub erase-end : (m w : List ℕ) (i x : ℕ) (v : List ℕ) → i < length w → getD w i 0 ≡ endOfList → v ≡ edit (listErased m (drop i w) x) 0 v
 erase-end m w i x v h e = sym (edit-keep (listErased m (drop i w) x) 0 v (λ j old k. rw (ends-names w i h e (blockAt m (0 + j)))))
+
+-- ---- the blocks from block m on
+
+-- a list reaches block m where it names one from there on
+pub names-reaches : (w : List ℕ) (m b : ℕ) → m ≤ b → T (names w b) → reaches m w ≡ true
+unfolding names reaches
+names-reaches [] m b h t = absurd t
+names-reaches (f ∷ []) m b h t = absurd t
+names-reaches (f ∷ c ∷ w) m b h t = go (eqb f endOfList) (leb f b) refl (ltb b (f + c)) refl (names-reaches w m b h) t
+  where
+    covers : f ≤ b → b < f + c → (not (eqb c 0) && ltb m (f + c)) ≡ true
+    covers p q = rw (ne-eqb c 0 (λ z. omega arith), lt-ltb m (f + c) (omega arith))
+
+    go : (x y : Bool) → leb f b ≡ y → (z : Bool) → ltb b (f + c) ≡ z → (T (names w b) → reaches m w ≡ true)
+        → T (not x && (y && z || names w b)) → (not x && (not (eqb c 0) && ltb m (f + c) || reaches m w)) ≡ true
+    go true y ey z ez ih t = absurd t
+    go false true ey true ez ih t = rw (covers (leb-true _ _ ey) (ltb-true _ _ ez))
+    go false true ey false ez ih t = rw (ih t) (or-true (not (eqb c 0) && ltb m (f + c)))
+    go false false ey true ez ih t = rw (ih t) (or-true (not (eqb c 0) && ltb m (f + c)))
+    go false false ey false ez ih t = rw (ih t) (or-true (not (eqb c 0) && ltb m (f + c)))
+
+-- and there alone
+pub reaches-names : (w : List ℕ) (m : ℕ) → reaches m w ≡ true → (b : ℕ) × (m ≤ b) × T (names w b)
+unfolding names reaches
+reaches-names [] m h = absurd (true≢false (sym h))
+reaches-names (f ∷ []) m h = absurd (true≢false (sym h))
+reaches-names (f ∷ c ∷ w) m h = go (eqb f endOfList) refl (eqb c 0) refl (ltb m (f + c)) refl (reaches-names w m) h
+  where
+    -- the last block of the pair
+    last : 0 < c → m < f + c → (b : ℕ) × (m ≤ b) × T (leb f b && ltb b (f + c) || names w b)
+    last p q =
+        let b : ℕ = f + c - 1 in
+        (b, omega arith, rw (le-leb f b (omega arith), lt-ltb b (f + c) (omega arith)) tt)
+
+    later : ((b : ℕ) × (m ≤ b) × T (names w b)) → (b : ℕ) × (m ≤ b) × T (leb f b && ltb b (f + c) || names w b)
+    later r = (r .0, r .1, or-second (leb f (r .0) && ltb (r .0) (f + c)) (names w (r .0)) (r .2))
+      where
+        or-second : (x y : Bool) → T y → T (x || y)
+        or-second true y t = tt
+        or-second false y t = t
+
+    go : (x : Bool) → eqb f endOfList ≡ x → (y : Bool) → eqb c 0 ≡ y → (z : Bool) → ltb m (f + c) ≡ z → (reaches m w ≡ true → (b : ℕ) × (m ≤ b) × T (names w b))
+        → (not x && (not y && z || reaches m w)) ≡ true → (b : ℕ) × (m ≤ b) × T (not x && (leb f b && ltb b (f + c) || names w b))
+    go true ex y ey z ez ih h = absurd (true≢false (sym h))
+    go false ex true ey z ez ih h = later (ih h)
+    go false ex false ey true ez ih h = last (let n = eqb-false c 0 ey in omega arith) (ltb-true _ _ ez)
+    go false ex false ey false ez ih h = later (ih h)

@@ -11,18 +11,20 @@ use lib.Dec.{T, leb, ltb, eqb}
 use lib.ListN.{length, getD}
 use Rattle.common.specs.Answers.{success}
 use Rattle.common.specs.Lists.{edit}
-use Rattle.common.specs.Refusals.{firstRefusal}
+use Rattle.common.specs.Refusals.{firstRefusal, row}
 use Rattle.common.proofs.Edit.{getD-edit, getD-kept, edit-same, edit-keep}
+use Rattle.common.proofs.Refusals.{row-passes, no-row, idle-row}
 use Rattle.volume.specs.Attributes.{flag, writeStatus, erasePolarity}
 use Rattle.volume.specs.BlockMap.{blocks, bytes}
 use Rattle.volume.specs.State.{mapOf, unlawful}
 use Rattle.volume.specs.declared.state.State.{State}
 use Rattle.block_service.specs.Access.{erasedByte, keep, erase, changedByte}
 use Rattle.block_service.specs.Blocks.{inBlock, blockAt}
-use Rattle.block_service.specs.Erase.{endOfList, goodList, names, eraseChange}
-use Rattle.block_service.specs.Service.{eraseBlocks, refusals, effect, Result, result, perform, bufferOf, step}
+use Rattle.block_service.specs.Erase.{endOfList, goodList, names, reaches, eraseChange}
+use Rattle.block_service.specs.Service.{write, eraseBlocks, lentRefusals, refusals, effect, Result, result, perform, bufferOf, step}
+use Rattle.block_service.proofs.erase.Lists.{names-reaches, reaches-names}
 use Rattle.block_service.proofs.blocks.Places.{inBlock-blockAt, inBlock-bounds, in-some-block, before-firstByte, firstByte-end, firstByte-le}
-use Rattle.block_service.proofs.service.Steps.{allowed-step, passed-success, Passed, passed-erase, lent-passes, lent-none, refused-step}
+use Rattle.block_service.proofs.service.Steps.{allowed-step, passed-success, Passed, passed-erase, lent-passes, lent-last, refused-step}
 
 -- a good list names only blocks that are there
 names-within : (w : List ℕ) (n b : ℕ) → goodList n w ≡ true → T (names w b) → b < n
@@ -43,6 +45,25 @@ names-within (f ∷ c ∷ w) n b g t = go (eqb f endOfList) (eqb c 0) (leb (f + 
     go false false true ez true false eq ih g t = ih g t
     go false false true ez false true eq ih g t = ih g t
     go false false true ez false false eq ih g t = ih g t
+
+-- so a list that is good for n blocks reaches none from block n on
+good-within : (w : List ℕ) (n : ℕ) → goodList n w ≡ true → reaches n w ≡ false
+good-within w n g = go (reaches n w) refl
+  where
+    go : (t : Bool) → reaches n w ≡ t → t ≡ false
+    go true e = let r = reaches-names w n e in absurd (omega (arith, names-within w n (r .0) g (r .2)))
+    go false e = refl
+
+-- where no block is protected, a write and an erase are refused by their first four rows alone
+pub unprotected-write : (st : State) (n : ℕ) → st .protected ≡ blocks (mapOf st) → (b o : ℕ) (new : List ℕ)
+    → firstRefusal (refusals st n (write b o new)) ≡ firstRefusal (lentRefusals st n writeStatus ++ (row (leb (blocks (mapOf st)) b) 2 ∷ []))
+unfolding refusals
+unprotected-write st n e b o new = idle-row (lentRefusals st n writeStatus) _ _ 2 15 (λ h. rw e h)
+
+pub unprotected-erase : (st : State) (n : ℕ) → st .protected ≡ blocks (mapOf st) → (list : List ℕ)
+    → firstRefusal (refusals st n (eraseBlocks list)) ≡ firstRefusal (lentRefusals st n writeStatus ++ (row (not (goodList (blocks (mapOf st)) list)) 2 ∷ []))
+unfolding refusals
+unprotected-erase st n e list = idle-row (lentRefusals st n writeStatus) _ _ 2 15 (λ h. rw e (good-within list (blocks (mapOf st)) (not-false _ h)))
 
 -- after a good erase
 module _ (st : State) (v list : List ℕ) (good : step st v (eraseBlocks list) .answer ≡ success []) where
@@ -118,6 +139,18 @@ erased-bit a j h = go (eqb (a / erasePolarity % 2) 1) refl
 
 -- ---- erase lists
 
+-- lists that name the same blocks reach the same
+same-reach : (a b : List ℕ) (m : ℕ) → ((k : ℕ) → names a k ≡ names b k) → reaches m a ≡ reaches m b
+same-reach a b m same = go (reaches m a) refl (reaches m b) refl
+  where
+    from : (a b : List ℕ) → ((k : ℕ) → names a k ≡ names b k) → reaches m a ≡ true → reaches m b ≡ true
+    from a b same e = let r = reaches-names a m e in names-reaches b m (r .0) (r .1) (rw (same (r .0)) at (r .2))
+
+    go : (x : Bool) → reaches m a ≡ x → (y : Bool) → reaches m b ≡ y → x ≡ y
+    go true ex y ey = sym (from a b same ex) ∙ ey
+    go false ex true ey = sym ex ∙ from b a (λ k. sym (same k)) ey
+    go false ex false ey = refl
+
 -- lists that are good or bad alike, and name the same blocks, erase alike
 pub named-alike : (st : State) (v a b : List ℕ) → goodList (blocks (mapOf st)) a ≡ goodList (blocks (mapOf st)) b → ((k : ℕ) → names a k ≡ names b k)
     → step st v (eraseBlocks a) ≡ step st v (eraseBlocks b)
@@ -125,7 +158,7 @@ unfolding refusals bufferOf perform effect eraseChange
 named-alike st v a b good same = go (firstRefusal (refusals st (length v) (eraseBlocks a))) refl
   where
     tables : firstRefusal (refusals st (length v) (eraseBlocks a)) ≡ firstRefusal (refusals st (length v) (eraseBlocks b))
-    tables = rw good
+    tables = rw (good, same-reach a b (st .protected) same)
 
     bytes-same : edit (λ i old. changedByte (st .attributes) (eraseChange (mapOf st) a i) old) 0 v
         ≡ edit (λ i old. changedByte (st .attributes) (eraseChange (mapOf st) b i) old) 0 v
@@ -189,21 +222,27 @@ pub words-after-end : (st : State) (v pairs a b : List ℕ) → length pairs % 2
     → step st v (eraseBlocks (pairs ++ (endOfList ∷ a))) ≡ step st v (eraseBlocks (pairs ++ (endOfList ∷ b)))
 words-after-end st v pairs a b e = named-alike st v _ _ (after-good (blocks (mapOf st)) pairs a b e) (after-names pairs a b e)
 
--- a good list succeeds, of a lawful state and a volume lent whole, with writes enabled: each byte of the blocks that it names is erased
+-- a good list that names no protected block succeeds, of a lawful state and a volume lent whole, with writes enabled: each byte of the blocks that it
+-- names is erased
 pub erase-allowed : (st : State) (v list : List ℕ) → unlawful st ≡ false → st .length ≤ length v → flag (st .attributes) writeStatus ≡ true
-    → goodList (blocks (mapOf st)) list ≡ true
+    → goodList (blocks (mapOf st)) list ≡ true → ((b : ℕ) → T (names list b) → b < st .protected)
     → step st v (eraseBlocks list)
     ≡ result (success []) st (edit (λ i old. changedByte (st .attributes) (eraseChange (mapOf st) list i) old) 0 v) []
 unfolding refusals bufferOf perform effect
-erase-allowed st v list ok long on good =
-    sym (allowed-step st v (eraseBlocks list) (lent-none st _ writeStatus _ (lent-passes st _ writeStatus ok long on) (ap not good)))
+erase-allowed st v list ok long on good free =
+    sym (allowed-step st v (eraseBlocks list)
+    (lent-last st _ writeStatus _ _ (lent-passes st _ writeStatus ok long on) (ap not good) ∙ row-passes _ _ _ _ (go (reaches (st .protected) list) refl) no-row))
+  where
+    go : (t : Bool) → reaches (st .protected) list ≡ t → t ≡ false
+    go true e = let r = reaches-names list (st .protected) e in absurd (omega (arith, free (r .0) (r .2)))
+    go false e = refl
 
 -- the empty list succeeds and changes nothing, whatever follows its terminator
 pub empty-list : (st : State) (v rest : List ℕ) → unlawful st ≡ false → st .length ≤ length v → flag (st .attributes) writeStatus ≡ true
     → step st v (eraseBlocks (endOfList ∷ rest)) ≡ result (success []) st v []
 unfolding changedByte eraseChange
 empty-list st v rest ok long on =
-    erase-allowed st v (endOfList ∷ rest) ok long on (end-good (blocks (mapOf st)) rest)
+    erase-allowed st v (endOfList ∷ rest) ok long on (end-good (blocks (mapOf st)) rest) (λ b t. absurd (rw (end-names rest b) at t))
     ∙ ap (λ (l : List ℕ). result (success []) st l [])
     (edit-keep (λ i old. changedByte (st .attributes) (eraseChange (mapOf st) (endOfList ∷ rest) i) old) 0 v
     (λ i old h. rw (end-names rest (blockAt (mapOf st) (0 + i)))))

@@ -1,13 +1,13 @@
--- What holds of all the calls: which things none of them changes, that a lawful state stays lawful, and what locks keep.
-use Prim.Native.Nat.{ℕ, _/_, _%_, _≤_, _<_}
+-- What holds of all the calls: which things none of them changes, that a lawful state stays lawful, what locks keep, and what protection keeps.
+use Prim.Native.Nat.{ℕ, _+_, _-_, _/_, _%_, _≤_, _<_}
 use mathlib.Core.Bool.{Bool, true, false, not, cond, _&&_, _||_, true≢false}
 use mathlib.Core.List.{List, [], _∷_}
 use mathlib.Core.Option.{Option, none, some}
-use mathlib.Core.Path.{_≡_, refl, sym, ap, subst}
+use mathlib.Core.Path.{_≡_, refl, sym, ap, subst, _∙_}
 use native.Mathlib.Omega.{arith}
 use borrow.Author.Tests.{leb-false, eqb-true, not-false}
 use lib.Bits.{bitOr}
-use lib.Dec.{eqb}
+use lib.Dec.{T, eqb}
 use lib.ListN.{length, getD}
 use Rattle.common.specs.Refusals.{row, firstRefusal, any}
 use Rattle.common.proofs.Bits.{bit, masked-bit, above-mask, apart-mask}
@@ -19,25 +19,28 @@ use Rattle.volume.specs.State.{mapOf, unlawful, stateWith}
 use Rattle.volume.specs.declared.state.State.{State}
 use Rattle.volume.proofs.state.Lawful.{lawful}
 use Rattle.block_service.specs.Access.{countMoved}
-use Rattle.block_service.specs.Blocks.{place}
-use Rattle.block_service.specs.Service.{Call, getAttributes, setAttributes, getPhysicalAddress, getBlockSize, read, write, eraseBlocks, refusals, effect, Result}
-use Rattle.block_service.specs.Service.{perform, bufferOf, step, decide, Effect, reply, setTo, copyOut, change, withAttributes}
+use Rattle.block_service.specs.Blocks.{place, inBlock}
+use Rattle.block_service.specs.Service.{Call, getAttributes, setAttributes, getPhysicalAddress, getBlockSize, read, write, eraseBlocks, protectBlocks, refusals, effect, Result}
+use Rattle.block_service.specs.Service.{perform, bufferOf, step, decide, Effect, reply, setTo, copyOut, change, withAttributes, withProtected}
 use Rattle.block_service.specs.Settings.{statusBits, changesFixed, raises, clears, breaksLock, changesLocked, settingRefusals}
 use Rattle.block_service.specs.declared.blocks.Place.{Place}
 use Rattle.block_service.specs.declared.blocks.Place.the-variants.{At, Missing}
-use Rattle.block_service.proofs.blocks.Places.{found-within, place-lost, past-every-block}
+use Rattle.block_service.proofs.blocks.Places.{found-within, place-lost, past-every-block, in-one-block}
+use Rattle.block_service.proofs.erase.Lists.{names-reaches}
 use Rattle.block_service.proofs.service.Erasing.{erase-other}
-use Rattle.block_service.proofs.service.Moving.{write-other}
-use Rattle.block_service.proofs.service.Steps.{refused-step, allowed-step, allowed-answers, passed-write, passed-erase}
+use Rattle.block_service.proofs.service.Moving.{write-other, write-in-block}
+use Rattle.block_service.proofs.service.Protecting.{protect-passed, lower-lawful}
+use Rattle.block_service.proofs.service.Steps.{refused-step, allowed-step, allowed-answers, passed-write, write-unprotected, passed-erase, erase-unprotected}
 use Rattle.block_service.proofs.settings.Rules.{same-fixed, fixed-bits}
 
 -- ---- what no call changes
 
--- after a call the state is as it was, or has the settings that were set: what holds of both holds of it
+-- after a call the state is as it was, or has the settings or the first protected block that were set: what holds of all three holds of it
 pub state-cases : (P : State → Type 0) (st : State) (v : List ℕ) (c : Call) → P st
-    → ((new : ℕ) → firstRefusal (refusals st (length v) (setAttributes new)) ≡ none → P (withAttributes st new)) → P (step st v c .state)
+    → ((new : ℕ) → firstRefusal (refusals st (length v) (setAttributes new)) ≡ none → P (withAttributes st new))
+    → ((first : ℕ) → firstRefusal (refusals st (length v) (protectBlocks first)) ≡ none → P (withProtected st first)) → P (step st v c .state)
 unfolding perform effect
-state-cases P st v c same set = go (firstRefusal (refusals st (length v) c)) refl
+state-cases P st v c same set protect = go (firstRefusal (refusals st (length v) c)) refl
   where
     allowed : (c : Call) → firstRefusal (refusals st (length v) c) ≡ none → P (perform st v (bufferOf c) (effect st c) .state)
     allowed getAttributes e = same
@@ -47,6 +50,7 @@ state-cases P st v c same set = go (firstRefusal (refusals st (length v) c)) ref
     allowed (read b o buffer) e = same
     allowed (write b o new) e = same
     allowed (eraseBlocks list) e = same
+    allowed (protectBlocks first) e = protect first e
 
     go : (o : Option ℕ) → firstRefusal (refusals st (length v) c) ≡ o → P (step st v c .state)
     go (some n) e = subst (λ (r : Result). P (r .state)) (refused-step st v c n e) same
@@ -54,12 +58,12 @@ state-cases P st v c same set = go (firstRefusal (refusals st (length v) c)) ref
 
 -- the map and the edition are the same after every call
 pub map-kept : (st : State) (v : List ℕ) (c : Call) → mapOf (step st v c .state) ≡ mapOf st
-unfolding withAttributes stateWith mapOf
-map-kept st v c = state-cases (λ s. mapOf s ≡ mapOf st) st v c refl (λ new e. refl)
+unfolding withAttributes withProtected stateWith mapOf
+map-kept st v c = state-cases (λ s. mapOf s ≡ mapOf st) st v c refl (λ new e. refl) (λ first e. refl)
 
 pub edition-kept : (st : State) (v : List ℕ) (c : Call) → step st v c .state .edition ≡ st .edition
-unfolding withAttributes stateWith
-edition-kept st v c = state-cases (λ s. s .edition ≡ st .edition) st v c refl (λ new e. refl)
+unfolding withAttributes withProtected stateWith
+edition-kept st v c = state-cases (λ s. s .edition ≡ st .edition) st v c refl (λ new e. refl) (λ first e. refl)
 
 -- and so is the volume's length
 pub length-kept : (st : State) (v : List ℕ) (c : Call) → length (step st v c .volume) ≡ length v
@@ -109,6 +113,7 @@ allowed-past st v (eraseBlocks list) i h e =
     let p = passed-erase st (length v) list e in
     erase-other st v list (sym (ap (λ (r : Result). r .answer) (allowed-step st v (eraseBlocks list) e))) i
     (λ b t k. past-every-block (mapOf st) b i (omega (arith, p .lawful .total)) k)
+allowed-past st v (protectBlocks first) i h e = sym (ap (λ (r : Result). getD (r .volume) i 0) (allowed-step st v (protectBlocks first) e))
 
 -- volume bytes past the state's length never change
 pub past-length-kept : (st : State) (v : List ℕ) (c : Call) (i : ℕ) → st .length ≤ i → getD (step st v c .volume) i 0 ≡ getD v i 0
@@ -171,6 +176,7 @@ lawful-kept st v c ok =
     (λ new e.
     let p = set-passed st (length v) new e .fixed in
     set-lawful st new (same-attributes (st .edition) (st .attributes) new p) (same-base (st .edition) (st .attributes) new (st .base) p) ok)
+    (λ first e. lower-lawful st first (protect-passed st (length v) first e) ok)
 
 -- ---- locks
 
@@ -204,10 +210,10 @@ module _ (st : State) (v : List ℕ) (c : Call) (two : st .edition ≡ 2) where
 
   module _ (lock status : ℕ) (held : (new : ℕ) → changesLocked (st .edition) (st .attributes) new ≡ false → breaksLock (st .attributes) new lock status ≡ false) where
     lock-kept : flag (st .attributes) lock ≡ true → Kept lock status (step st v c .state)
-    unfolding withAttributes stateWith
+    unfolding withAttributes withProtected stateWith
     lock-kept on =
         state-cases (Kept lock status) st v c (on, refl)
-        (λ new e. unbroken (st .attributes) new lock status (held new (set-passed st (length v) new e .unlocked)) on)
+        (λ new e. unbroken (st .attributes) new lock status (held new (set-passed st (length v) new e .unlocked)) on) (λ first e. (on, refl))
 
   pub read-lock-kept : flag (st .attributes) readLockStatus ≡ true
       → (flag (step st v c .state .attributes) readLockStatus ≡ true) × (flag (step st v c .state .attributes) readStatus ≡ flag (st .attributes) readStatus)
@@ -217,12 +223,76 @@ module _ (st : State) (v : List ℕ) (c : Call) (two : st .edition ≡ 2) where
       → (flag (step st v c .state .attributes) writeLockStatus ≡ true) × (flag (step st v c .state .attributes) writeStatus ≡ flag (st .attributes) writeStatus)
   write-lock-kept = lock-kept writeLockStatus writeStatus (λ new e. locks-passed (st .edition) (st .attributes) new two e .1)
 
--- in both editions a state whose settings are locked stays as it is
-pub locked-kept : (st : State) (v : List ℕ) (c : Call) → flag (st .attributes) lockStatus ≡ true → step st v c .state ≡ st
-unfolding changesLocked withAttributes stateWith
+-- in both editions a state whose settings are locked stays as it is, but for its first protected block
+pub locked-kept : (st : State) (v : List ℕ) (c : Call) → flag (st .attributes) lockStatus ≡ true → step st v c .state ≡ withProtected st (step st v c .state .protected)
+unfolding changesLocked withAttributes withProtected stateWith
 locked-kept st v c on =
-    state-cases (λ s. s ≡ st) st v c refl
+    state-cases (λ s. s ≡ withProtected st (s .protected)) st v c refl
     (λ new e.
     let p = any-passed (flag (st .attributes) lockStatus && not (eqb (st .attributes) new)) _ (set-passed st (length v) new e .unlocked) in
     let same : new ≡ st .attributes = sym (eqb-true (st .attributes) new (not-false _ (rw on at (p .0)))) in
     ap (λ (a : ℕ). withAttributes st a) same)
+    (λ first e. refl)
+
+-- ---- protection (02, j)
+
+-- no call raises the first protected block
+pub protected-falls : (st : State) (v : List ℕ) (c : Call) → step st v c .state .protected ≤ st .protected
+unfolding withAttributes withProtected stateWith
+protected-falls st v c =
+    state-cases (λ s. s .protected ≤ st .protected) st v c (omega arith) (λ new e. omega arith) (λ first e. protect-passed st (length v) first e)
+
+-- and only protecting blocks moves it: any other call keeps it
+pub protection-kept : (st : State) (v : List ℕ) (c : Call) → ((first : ℕ) → c ≡ protectBlocks first → ⊥) → step st v c .state .protected ≡ st .protected
+unfolding perform effect withAttributes stateWith
+protection-kept st v c other = go (firstRefusal (refusals st (length v) c)) refl
+  where
+    allowed : (c : Call) → ((first : ℕ) → c ≡ protectBlocks first → ⊥) → perform st v (bufferOf c) (effect st c) .state .protected ≡ st .protected
+    allowed getAttributes unlike = refl
+    allowed (setAttributes new) unlike = refl
+    allowed getPhysicalAddress unlike = refl
+    allowed (getBlockSize b) unlike = refl
+    allowed (read b o buffer) unlike = refl
+    allowed (write b o new) unlike = refl
+    allowed (eraseBlocks list) unlike = refl
+    allowed (protectBlocks first) unlike = absurd (unlike first refl)
+
+    go : (o : Option ℕ) → firstRefusal (refusals st (length v) c) ≡ o → step st v c .state .protected ≡ st .protected
+    go (some n) e = ap (λ (r : Result). r .state .protected) (sym (refused-step st v c n e))
+    go none e = ap (λ (r : Result). r .state .protected) (sym (allowed-step st v c e)) ∙ allowed c other
+
+-- a call that passed its table changes no byte of a protected block
+allowed-protected : (st : State) (v : List ℕ) (c : Call) (b i : ℕ) → st .protected ≤ b → T (inBlock (mapOf st) b i) → firstRefusal (refusals st (length v) c) ≡ none
+    → getD (step st v c .volume) i 0 ≡ getD v i 0
+unfolding perform effect
+allowed-protected st v getAttributes b i h k e = sym (ap (λ (r : Result). getD (r .volume) i 0) (allowed-step st v getAttributes e))
+allowed-protected st v (setAttributes new) b i h k e = sym (ap (λ (r : Result). getD (r .volume) i 0) (allowed-step st v (setAttributes new) e))
+allowed-protected st v getPhysicalAddress b i h k e = sym (ap (λ (r : Result). getD (r .volume) i 0) (allowed-step st v getPhysicalAddress e))
+allowed-protected st v (getBlockSize a) b i h k e = sym (ap (λ (r : Result). getD (r .volume) i 0) (allowed-step st v (getBlockSize a) e))
+allowed-protected st v (read a o buffer) b i h k e = sym (ap (λ (r : Result). getD (r .volume) i 0) (allowed-step st v (read a o buffer) e))
+allowed-protected st v (write a o new) b i h k e =
+    go (place (mapOf st) a) refl (leb-false _ _ (passed-write st (length v) a o new e .last))
+  where
+    go : (x : Place) → place (mapOf st) a ≡ x → a < blocks (mapOf st) → getD (step st v (write a o new) .volume) i 0 ≡ getD v i 0
+    go (At e' s l r) at w =
+        write-other st v a o new (allowed-answers st v (write a o new) e) e' s l r at i
+        (λ p q.
+        let z : s + o + (i - (s + o)) ≡ i = omega arith in
+        let t = write-in-block st v a o new (allowed-answers st v (write a o new) e) e' s l r at (i - (s + o)) (omega arith) in
+        let same : a ≡ b = in-one-block (mapOf st) a b i (rw z at t) k in
+        omega (arith, write-unprotected st (length v) a o new e))
+    go Missing at w = absurd (omega (arith, place-lost (mapOf st) a at))
+allowed-protected st v (eraseBlocks list) b i h k e =
+    erase-other st v list (sym (ap (λ (r : Result). r .answer) (allowed-step st v (eraseBlocks list) e))) i
+    (λ a t m.
+    let same : a ≡ b = in-one-block (mapOf st) a b i m k in
+    true≢false (sym (names-reaches list (st .protected) a (omega arith) t) ∙ erase-unprotected st (length v) list e))
+allowed-protected st v (protectBlocks first) b i h k e = sym (ap (λ (r : Result). getD (r .volume) i 0) (allowed-step st v (protectBlocks first) e))
+
+-- no call does, whether it is refused or not
+pub protected-kept : (st : State) (v : List ℕ) (c : Call) (b i : ℕ) → st .protected ≤ b → T (inBlock (mapOf st) b i) → getD (step st v c .volume) i 0 ≡ getD v i 0
+protected-kept st v c b i h k = go (firstRefusal (refusals st (length v) c)) refl
+  where
+    go : (o : Option ℕ) → firstRefusal (refusals st (length v) c) ≡ o → getD (step st v c .volume) i 0 ≡ getD v i 0
+    go (some n) e = ap (λ (r : Result). getD (r .volume) i 0) (sym (refused-step st v c n e))
+    go none e = allowed-protected st v c b i h k e

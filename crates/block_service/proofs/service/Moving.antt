@@ -2,26 +2,39 @@
 use Prim.Native.Nat.{ℕ, _+_, _-_, _≤_, _<_}
 use mathlib.Core.Bool.{Bool, true, false, cond, _&&_}
 use mathlib.Core.List.{List, [], _++_}
+use mathlib.Core.Option.{none}
 use mathlib.Core.Path.{_≡_, refl, sym, ap, _∙_}
 use native.Mathlib.Nat.{zero-add}
 use native.Mathlib.Omega.{arith}
-use borrow.Author.Tests.{lt-ltb, le-leb, lt-leb, ltb-true, ltb-false, leb-true}
+use borrow.Author.Tests.{lt-ltb, le-leb, lt-leb, ltb-true, ltb-false, leb-true, leb-false}
 use lib.Dec.{T, leb, ltb}
 use lib.ListN.{length, getD, take, drop, List·getD-append, length-drop}
 use lib.Seq.{getD-take, getD-drop, length-take-le, getD-append-add}
 use Rattle.common.specs.Answers.{refused}
 use Rattle.common.specs.Lists.{edit}
+use Rattle.common.specs.Refusals.{firstRefusal}
 use Rattle.common.proofs.Edit.{getD-edit, getD-kept}
+use Rattle.common.proofs.Refusals.{row-passes, no-row}
 use Rattle.volume.specs.Attributes.{flag, readStatus, writeStatus}
 use Rattle.volume.specs.BlockMap.{blocks}
 use Rattle.volume.specs.State.{mapOf, unlawful}
 use Rattle.volume.specs.declared.state.State.{State}
+use Rattle.volume.proofs.state.Lawful.{lawful}
 use Rattle.block_service.specs.Access.{countMoved, writtenByte, keep, store, writeChange, changedByte}
 use Rattle.block_service.specs.Blocks.{place, startOf, lengthOf, inBlock}
 use Rattle.block_service.specs.Service.{moveAnswer, read, write, refusals, effect, Result, result, perform, bufferOf, step}
 use Rattle.block_service.specs.declared.blocks.Place.the-variants.{At}
 use Rattle.block_service.proofs.blocks.Places.{inBlock-of-bounds, found-start, found-end, found-within, place-found, place-there}
-use Rattle.block_service.proofs.service.Steps.{allowed-step, allowed-answers, lent-none, lent-passes, passed, passed-read, passed-write, read-step, write-step}
+use Rattle.block_service.proofs.service.Steps.{allowed-step, allowed-answers, lent-last, lent-passes, passed, passed-read, passed-rows, passed-write, reachRows, read-step, write-step}
+
+-- a block that a read or a write may start in lies in the lent volume
+pub reach-within : (st : State) (n status limit b : ℕ) → firstRefusal (reachRows st n status limit b) ≡ none
+    → startOf (place (mapOf st) b) + lengthOf (place (mapOf st) b) ≤ n
+unfolding startOf lengthOf
+reach-within st n status limit b e =
+    let p = passed-rows st n status _ _ e .0 in
+    let t = place-there (mapOf st) b (leb-false _ _ (p .last)) in
+    rw (t .4) (omega (arith, found-within (mapOf st) b (t .0) (t .1) (t .2) (t .3) (t .4), p .lawful .total, p .long))
 
 -- after a write that was not refused, in the block at s of length l
 module _ (st : State) (v : List ℕ) (b o : ℕ) (new : List ℕ) (h : (n : ℕ) → step st v (write b o new) .answer ≡ refused n → ⊥)
@@ -128,7 +141,7 @@ module _ (st : State) (v : List ℕ) (b o : ℕ) (buffer : List ℕ) (h : (n : �
       ∙ getD-drop n buffer (j - n) 0
       ∙ ap (λ (i : ℕ). getD buffer i 0) y)
 
--- ---- what is done where no row refuses: a lawful state, a volume lent whole, the status on, and a block that is there
+-- ---- what is done where no row refuses: a lawful state, a volume lent whole, the status on, and a block that is there, for a write one that is not protected
 module _ (st : State) (v : List ℕ) (ok : unlawful st ≡ false) (long : st .length ≤ length v) where
   pub read-allowed : flag (st .attributes) readStatus ≡ true → (b o : ℕ) (buffer : List ℕ) → b < blocks (mapOf st)
       → ((n : ℕ) → step st v (read b o buffer) .answer ≡ refused n → ⊥)
@@ -136,24 +149,25 @@ module _ (st : State) (v : List ℕ) (ok : unlawful st ≡ false) (long : st .le
       × (step st v (read b o buffer)
       ≡ result (moveAnswer (countMoved l o (length buffer)) (length buffer)) st v
       (take (countMoved l o (length buffer)) (drop (s + o) v) ++ drop (countMoved l o (length buffer)) buffer)))
-  unfolding refusals
+  unfolding refusals startOf lengthOf
   read-allowed on b o buffer h =
-      let pass = lent-none st (length v) readStatus _ (lent-passes st _ readStatus ok long on) (lt-leb _ _ h) in
+      let pass = lent-last st (length v) readStatus _ _ (lent-passes st _ readStatus ok long on) (lt-leb _ _ h) ∙ no-row in
       let p = place-there (mapOf st) b h in (
         allowed-answers st v (read b o buffer) pass,
-        (p .0, p .1, p .2, p .3, p .4, sym (read-step st v b o buffer (p .0) (p .1) (p .2) (p .3) _ _ _ pass (p .4) refl refl refl)),
+        (p .0, p .1, p .2, p .3, p .4, sym (read-step st v b o buffer (p .1) (p .2) _ _ _ pass (sym (ap startOf (p .4))) (sym (ap lengthOf (p .4))) refl refl refl)),
       )
 
-  pub write-allowed : flag (st .attributes) writeStatus ≡ true → (b o : ℕ) (new : List ℕ) → b < blocks (mapOf st)
+  pub write-allowed : flag (st .attributes) writeStatus ≡ true → (b o : ℕ) (new : List ℕ) → b < st .protected
       → ((n : ℕ) → step st v (write b o new) .answer ≡ refused n → ⊥)
       × ((e : ℕ) × (s : ℕ) × (l : ℕ) × (r : ℕ) × (place (mapOf st) b ≡ At e s l r)
       × (step st v (write b o new)
       ≡ result (moveAnswer (countMoved l o (length new)) (length new)) st
       (edit (λ i old. changedByte (st .attributes) (writeChange (s + o) (countMoved l o (length new)) new i) old) 0 v) []))
-  unfolding refusals
+  unfolding refusals startOf lengthOf
   write-allowed on b o new h =
-      let pass = lent-none st (length v) writeStatus _ (lent-passes st _ writeStatus ok long on) (lt-leb _ _ h) in
-      let p = place-there (mapOf st) b h in (
+      let there : b < blocks (mapOf st) = omega (arith, lawful st ok .protected) in
+      let pass = lent-last st (length v) writeStatus _ _ (lent-passes st _ writeStatus ok long on) (lt-leb _ _ there) ∙ row-passes _ _ _ _ (lt-leb _ _ h) no-row in
+      let p = place-there (mapOf st) b there in (
         allowed-answers st v (write b o new) pass,
-        (p .0, p .1, p .2, p .3, p .4, sym (write-step st v b o new (p .0) (p .1) (p .2) (p .3) _ _ _ pass (p .4) refl refl refl)),
+        (p .0, p .1, p .2, p .3, p .4, sym (write-step st v b o new (p .1) (p .2) _ _ _ pass (sym (ap startOf (p .4))) (sym (ap lengthOf (p .4))) refl refl refl)),
       )

@@ -2,12 +2,9 @@
 use Prim.Native.Nat.{ℕ}
 use mathlib.Core.Bool.{Bool, true, false}
 use mathlib.Core.List.{List, [], _∷_}
-use mathlib.Core.Option.{Option, none, some}
 use mathlib.Core.Path.{_≡_, refl, sym, ap, _∙_}
 use native.Mathlib.Omega.{arith}
-use lib.ListN.{length}
 use Rattle.common.specs.Answers.{refused, success}
-use Rattle.common.specs.Refusals.{firstRefusal}
 use Rattle.common.proofs.Bits.{bit}
 use Rattle.common.proofs.Refusals.{row-applies, row-passes, no-row}
 use Rattle.volume.specs.State.{stateWith, unlawful}
@@ -15,7 +12,7 @@ use Rattle.volume.specs.declared.state.State.{State}
 use Rattle.block_service.specs.Service.{setAttributes, refusals, effect, withAttributes, Result, result, perform, bufferOf, step}
 use Rattle.block_service.specs.Settings.{statusBits, changesFixed, changesLocked, lacksCapability, settingRefusals}
 use Rattle.block_service.proofs.settings.Rules.{fixed-none, locked-none, lacks-none, bits-fixed}
-use Rattle.block_service.proofs.service.Steps.{refused-step, allowed-step, unlawful-step}
+use Rattle.block_service.proofs.service.Steps.{refused-step, allowed-step, quiet-step, unlawful-step}
 
 -- the rules in their order, of a lawful state
 module _ (st : State) (v : List ℕ) (new : ℕ) (ok : unlawful st ≡ false) where
@@ -56,14 +53,7 @@ settings-as-they-are st v ok =
 -- setting the settings stores nothing in the volume
 pub set-stores-nothing : (st : State) (v : List ℕ) (new : ℕ) → step st v (setAttributes new) .volume ≡ v
 unfolding perform effect
-set-stores-nothing st v new = go (firstRefusal (refusals st (length v) (setAttributes new))) refl
-  where
-    effect-volume : perform st v (bufferOf (setAttributes new)) (effect st (setAttributes new)) .volume ≡ v
-    effect-volume = refl
-
-    go : (o : Option ℕ) → firstRefusal (refusals st (length v) (setAttributes new)) ≡ o → step st v (setAttributes new) .volume ≡ v
-    go (some n) e = ap (λ (r : Result). r .volume) (sym (refused-step st v (setAttributes new) n e))
-    go none e = ap (λ (r : Result). r .volume) (sym (allowed-step st v (setAttributes new) e)) ∙ effect-volume
+set-stores-nothing st v new = quiet-step st v (setAttributes new) refl
 
 -- settings that agree at every bit but the statuses' are refused with 2 only for a missing capability
 pub set-refused-2 : (st : State) (v : List ℕ) (new : ℕ)

@@ -5,25 +5,28 @@ use mathlib.Core.List.{List, [], _∷_, _++_}
 use mathlib.Core.Option.{Option, none, some}
 use mathlib.Core.Path.{_≡_, refl, sym, ap, _∙_}
 use native.Mathlib.Omega.{arith}
-use borrow.Author.Tests.{lt-ltb, le-ltb, le-leb, ltb-false, not-false}
-use lib.Dec.{leb, ltb, eqb}
+use borrow.Author.Tests.{lt-ltb, le-ltb, le-leb, lt-leb, ltb-false, leb-false, not-false}
+use lib.Dec.{T, leb, ltb, eqb}
 use lib.ListN.{length, take, drop}
 use Rattle.common.specs.Answers.{refused, success, short, Answer}
 use Rattle.common.specs.Lists.{edit}
-use Rattle.common.specs.Refusals.{row, firstRefusal, Row}
+use Rattle.common.specs.Refusals.{row, firstRefusal, unlessRefused, Row}
 use Rattle.common.proofs.Edit.{edit-same}
-use Rattle.common.proofs.Refusals.{row-passed, front-passed, then-passed, then-refused, row-applies, row-passes, no-row}
+use Rattle.common.proofs.Refusals.{row-passed, front-passed, then-passed, then-refused, row-applies, row-passes, no-row, idle-row}
 use Rattle.volume.specs.Attributes.{flag, readStatus, writeStatus, memoryMapped}
-use Rattle.volume.specs.BlockMap.{blocks}
+use Rattle.volume.specs.BlockMap.{blocks, maxBlocks}
 use Rattle.volume.specs.State.{mapOf, unlawful}
 use Rattle.volume.specs.declared.state.State.{State}
 use Rattle.volume.proofs.state.Lawful.{Lawful, lawful}
 use Rattle.block_service.specs.Access.{countMoved, erasedByte, keep, erase, writeChange, changedByte}
 use Rattle.block_service.specs.Blocks.{place, startOf, lengthOf, blockAt, consecutiveBlocks}
-use Rattle.block_service.specs.Erase.{goodList, names, eraseChange}
-use Rattle.block_service.specs.Service.{Call, getAttributes, setAttributes, getPhysicalAddress, getBlockSize, read, write, eraseBlocks, lentRefusals, refusals}
-use Rattle.block_service.specs.Service.{effect, moveAnswer, Result, result, perform, bufferOf, step, decide}
+use Rattle.block_service.specs.Erase.{goodList, names, reaches, eraseChange}
+use Rattle.block_service.specs.Service.{Call, getAttributes, setAttributes, getPhysicalAddress, getBlockSize, read, write, eraseBlocks, protectBlocks, lentRefusals, refusals}
+use Rattle.block_service.specs.Service.{effect, moveAnswer, Result, result, perform, bufferOf, step, decide, reachOf}
 use Rattle.block_service.specs.declared.blocks.Place.the-variants.{At}
+use Rattle.block_service.specs.declared.service.Reach.the-variants as Reach
+use Rattle.block_service.specs.declared.service.Reach.the-variants.{Refused}
+use Rattle.block_service.proofs.erase.Lists.{names-reaches}
 
 -- a refused call answers its number and leaves everything as it was
 pub refused-step : (st : State) (v : List ℕ) (c : Call) (n : ℕ) → firstRefusal (refusals st (length v) c) ≡ some n
@@ -37,6 +40,14 @@ pub allowed-step : (st : State) (v : List ℕ) (c : Call) → firstRefusal (refu
 unfolding step decide
 allowed-step st v c e = rw e
 
+-- a call whose effect stores nothing leaves the volume as it was, refused or not
+pub quiet-step : (st : State) (v : List ℕ) (c : Call) → perform st v (bufferOf c) (effect st c) .volume ≡ v → step st v c .volume ≡ v
+quiet-step st v c h = go (firstRefusal (refusals st (length v) c)) refl
+  where
+    go : (o : Option ℕ) → firstRefusal (refusals st (length v) c) ≡ o → step st v c .volume ≡ v
+    go (some n) e = ap (λ (r : Result). r .volume) (sym (refused-step st v c n e))
+    go none e = ap (λ (r : Result). r .volume) (sym (allowed-step st v c e)) ∙ h
+
 -- 111 comes first at every call
 pub unlawful-step : (st : State) (v : List ℕ) (c : Call) → unlawful st ≡ true → result (refused 111) st v (bufferOf c) ≡ step st v c
 unfolding refusals lentRefusals
@@ -47,6 +58,7 @@ unlawful-step st v (getBlockSize b) e = refused-step st v _ 111 (row-applies _ _
 unlawful-step st v (read b o buffer) e = refused-step st v _ 111 (row-applies _ _ _ e)
 unlawful-step st v (write b o new) e = refused-step st v _ 111 (row-applies _ _ _ e)
 unlawful-step st v (eraseBlocks list) e = refused-step st v _ 111 (row-applies _ _ _ e)
+unlawful-step st v (protectBlocks first) e = refused-step st v _ 111 (row-applies _ _ _ e)
 
 -- what the rows say that a read, a write and an erase begin with, where they pass
 pub record Begun (st : State) (n status : ℕ) : Type 0 where
@@ -78,36 +90,81 @@ lent-15 : (st : State) (n status : ℕ) → unlawful st ≡ false → st .length
 unfolding lentRefusals
 lent-15 st n status ok long off = row-passes _ _ _ _ ok (row-passes _ _ _ _ (le-ltb _ _ long) (row-applies _ _ _ (ap not off)))
 
--- the whole table of such a call, with its last row's test: the first three refuse; they pass and the last row refuses; or all pass
-module _ (st : State) (n status : ℕ) (t : Bool) where
-  abbrev lentRows : List Row
-  lentRows = lentRefusals st n status ++ (row t 2 ∷ [])
-
-  pub lent-first : (m : ℕ) → firstRefusal (lentRefusals st n status) ≡ some m → firstRefusal lentRows ≡ some m
+-- the whole table of such a call, with the test of 2 and the rows behind it: the first three refuse; they pass and 2 refuses; or the rows behind it decide
+module _ (st : State) (n status : ℕ) (rows : List Row) where
+  pub lent-first : (m : ℕ) → firstRefusal (lentRefusals st n status) ≡ some m → firstRefusal (lentRefusals st n status ++ rows) ≡ some m
   lent-first m e = then-refused (lentRefusals st n status) _ m e
 
-  module _ (e : firstRefusal (lentRefusals st n status) ≡ none) where
-    pub lent-2 : t ≡ true → firstRefusal lentRows ≡ some 2
-    lent-2 h = then-passed (lentRefusals st n status) _ e ∙ row-applies _ _ _ h
+  pub lent-then : firstRefusal (lentRefusals st n status) ≡ none → firstRefusal (lentRefusals st n status ++ rows) ≡ firstRefusal rows
+  lent-then e = then-passed (lentRefusals st n status) _ e
 
-    pub lent-none : t ≡ false → firstRefusal lentRows ≡ none
-    lent-none h = then-passed (lentRefusals st n status) _ e ∙ row-passes _ _ _ _ h no-row
+module _ (st : State) (n status : ℕ) (t : Bool) (rest : List Row) (e : firstRefusal (lentRefusals st n status) ≡ none) where
+  pub lent-2 : t ≡ true → firstRefusal (lentRefusals st n status ++ (row t 2 ∷ rest)) ≡ some 2
+  lent-2 h = lent-then st n status _ e ∙ row-applies _ _ _ h
+
+  pub lent-last : t ≡ false → firstRefusal (lentRefusals st n status ++ (row t 2 ∷ rest)) ≡ firstRefusal rest
+  lent-last h = lent-then st n status _ e ∙ row-passes _ _ _ _ h refl
+
+-- where the block of a read or a write lies, by its table
+module _ (st : State) (n status limit block : ℕ) where
+  abbrev pub reachRows : List Row
+  reachRows = lentRefusals st n status ++ (row (leb (blocks (mapOf st)) block) 2 ∷ row (leb limit block) 15 ∷ [])
+
+  -- refused by it, or found
+  pub refused-reach : (m : ℕ) → firstRefusal reachRows ≡ some m → Refused m ≡ reachOf st n status limit block
+  unfolding reachOf
+  refused-reach m e = rw e
+
+  pub found-reach : (e s l r : ℕ) → firstRefusal reachRows ≡ none → place (mapOf st) block ≡ At e s l r → Reach.At s l ≡ reachOf st n status limit block
+  unfolding reachOf startOf lengthOf
+  found-reach e s l r p h = rw (p, h)
+
+  -- and the other way
+  pub reach-refused : (m : ℕ) → reachOf st n status limit block ≡ Refused m → firstRefusal reachRows ≡ some m
+  unfolding reachOf
+  reach-refused m = go (firstRefusal reachRows)
+    where
+      go : (o : Option ℕ) → unlessRefused (λ k. Refused k) o (Reach.At (startOf (place (mapOf st) block)) (lengthOf (place (mapOf st) block))) ≡ Refused m → o ≡ some m
+      go none e = absurd (let z : _≡_ {A = ℕ} 0 1 = cc in omega arith)
+      go (some k) e = let q : k ≡ m = cc in ap (λ (x : ℕ). some x) q
+
+  pub reach-at : (s l : ℕ) → reachOf st n status limit block ≡ Reach.At s l
+      → (firstRefusal reachRows ≡ none) × (s ≡ startOf (place (mapOf st) block)) × (l ≡ lengthOf (place (mapOf st) block))
+  unfolding reachOf
+  reach-at s l = go (firstRefusal reachRows)
+    where
+      go : (o : Option ℕ) → unlessRefused (λ k. Refused k) o (Reach.At (startOf (place (mapOf st) block)) (lengthOf (place (mapOf st) block))) ≡ Reach.At s l
+          → (o ≡ none) × (s ≡ startOf (place (mapOf st) block)) × (l ≡ lengthOf (place (mapOf st) block))
+      go none e = (refl, cc, cc)
+      go (some k) e = absurd (let z : _≡_ {A = ℕ} 0 1 = cc in omega arith)
+
+-- a read is refused as by this table with a limit past every block
+pub free-read : (st : State) (n limit b o : ℕ) (buffer : List ℕ) → maxBlocks ≤ limit → firstRefusal (reachRows st n readStatus limit b) ≡ firstRefusal (refusals st n (read b o buffer))
+unfolding refusals
+free-read st n limit b o buffer past = go (firstRefusal (lentRefusals st n readStatus)) refl
+  where
+    go : (x : Option ℕ) → firstRefusal (lentRefusals st n readStatus) ≡ x
+        → firstRefusal (reachRows st n readStatus limit b) ≡ firstRefusal (lentRefusals st n readStatus ++ (row (leb (blocks (mapOf st)) b) 2 ∷ []))
+    go (some m) e = lent-first st n readStatus _ m e ∙ sym (lent-first st n readStatus _ m e)
+    go none e =
+        let few = begun st n readStatus e .lawful .blocks in
+        idle-row (lentRefusals st n readStatus) _ _ 2 15 (λ h. lt-leb limit b (omega (arith, leb-false (blocks (mapOf st)) b h)))
 
 -- a read, a write, an erase and a block size that are not refused, from what the code has in hand
-pub read-step : (st : State) (v : List ℕ) (b o : ℕ) (buffer : List ℕ) (e s l r k : ℕ) (a : Answer) (after : List ℕ)
-    → firstRefusal (refusals st (length v) (read b o buffer)) ≡ none → place (mapOf st) b ≡ At e s l r
+pub read-step : (st : State) (v : List ℕ) (b o : ℕ) (buffer : List ℕ) (s l k : ℕ) (a : Answer) (after : List ℕ)
+    → firstRefusal (refusals st (length v) (read b o buffer)) ≡ none → s ≡ startOf (place (mapOf st) b) → l ≡ lengthOf (place (mapOf st) b)
     → k ≡ countMoved l o (length buffer) → a ≡ moveAnswer k (length buffer) → after ≡ take k (drop (s + o) v) ++ drop k buffer
     → result a st v after ≡ step st v (read b o buffer)
-unfolding perform effect bufferOf startOf lengthOf
-read-step st v b o buffer e s l r k a after n h ek ea eb = rw (eb, ea, ek) (rw h at (allowed-step st v (read b o buffer) n))
+unfolding perform effect bufferOf
+read-step st v b o buffer s l k a after n es el ek ea eb = rw (eb, ea, ek, es, el) (allowed-step st v (read b o buffer) n)
 
-pub write-step : (st : State) (v : List ℕ) (b o : ℕ) (new : List ℕ) (e s l r k : ℕ) (a : Answer) (after : List ℕ)
-    → firstRefusal (refusals st (length v) (write b o new)) ≡ none → place (mapOf st) b ≡ At e s l r
+pub write-step : (st : State) (v : List ℕ) (b o : ℕ) (new : List ℕ) (s l k : ℕ) (a : Answer) (after : List ℕ)
+    → firstRefusal (refusals st (length v) (write b o new)) ≡ none → s ≡ startOf (place (mapOf st) b) → l ≡ lengthOf (place (mapOf st) b)
     → k ≡ countMoved l o (length new) → a ≡ moveAnswer k (length new)
     → after ≡ edit (λ i old. changedByte (st .attributes) (writeChange (s + o) k new i) old) 0 v
     → result a st after [] ≡ step st v (write b o new)
-unfolding perform effect bufferOf startOf lengthOf
-write-step st v b o new e s l r k a after n h ek ea eb = rw (eb, ea, ek) (rw h at (allowed-step st v (write b o new) n))
+unfolding perform effect bufferOf
+write-step st v b o new s l k a after n es el ek ea eb = rw (eb, ea, ek, es, el) (allowed-step st v (write b o new) n)
 
 pub size-step : (st : State) (v : List ℕ) (b e s l r n : ℕ)
     → firstRefusal (refusals st (length v) (getBlockSize b)) ≡ none → place (mapOf st) b ≡ At e s l r → n ≡ consecutiveBlocks (mapOf st) b
@@ -153,6 +210,7 @@ effect-answers st v buffer (getBlockSize b) n e = let z : _≡_ {A = ℕ} 0 1 = 
 effect-answers st v buffer (read b o data') n e = move-answers _ _ n e
 effect-answers st v buffer (write b o new) n e = move-answers _ _ n e
 effect-answers st v buffer (eraseBlocks list) n e = let z : _≡_ {A = ℕ} 0 1 = cc in omega arith
+effect-answers st v buffer (protectBlocks first) n e = let z : _≡_ {A = ℕ} 0 1 = cc in omega arith
 
 -- so a call whose table passes is not refused
 pub allowed-answers : (st : State) (v : List ℕ) (c : Call) → firstRefusal (refusals st (length v) c) ≡ none
@@ -197,27 +255,38 @@ pub record Passed (st : State) (n : ℕ) (t : Bool) : Type 0 where
   pub long : st .length ≤ n
   pub last : t ≡ false
 
-passed-rows : (st : State) (n status : ℕ) (t : Bool) → firstRefusal (lentRows st n status t) ≡ none → Passed st n t
-passed-rows st n status t e =
+pub passed-rows : (st : State) (n status : ℕ) (t : Bool) (rest : List Row) → firstRefusal (lentRefusals st n status ++ (row t 2 ∷ rest)) ≡ none
+    → Passed st n t × (firstRefusal rest ≡ none)
+passed-rows st n status t rest e =
     let f = front-passed (lentRefusals st n status) _ e in
     let b = begun st n status f in
-    let d = row-passed (row t 2) _ (sym (then-passed (lentRefusals st n status) _ f) ∙ e) in
-    record { lawful = b .lawful; long = b .long; last = d .0 }
+    let d = row-passed (row t 2) rest (sym (then-passed (lentRefusals st n status) _ f) ∙ e) in
+    (record { lawful = b .lawful; long = b .long; last = d .0 }, d .1)
 
 pub passed-read : (st : State) (n b o : ℕ) (buffer : List ℕ) → firstRefusal (refusals st n (read b o buffer)) ≡ none
     → Passed st n (leb (blocks (mapOf st)) b)
 unfolding refusals
-passed-read st n b o buffer e = passed-rows st n readStatus _ e
+passed-read st n b o buffer e = passed-rows st n readStatus _ _ e .0
 
 pub passed-write : (st : State) (n b o : ℕ) (new : List ℕ) → firstRefusal (refusals st n (write b o new)) ≡ none
     → Passed st n (leb (blocks (mapOf st)) b)
 unfolding refusals
-passed-write st n b o new e = passed-rows st n writeStatus _ e
+passed-write st n b o new e = passed-rows st n writeStatus _ _ e .0
+
+-- and that a block written is not protected
+pub write-unprotected : (st : State) (n b o : ℕ) (new : List ℕ) → firstRefusal (refusals st n (write b o new)) ≡ none → b < st .protected
+unfolding refusals
+write-unprotected st n b o new e = leb-false _ _ (row-passed (row (leb (st .protected) b) 15) [] (passed-rows st n writeStatus _ _ e .1) .0)
 
 pub passed-erase : (st : State) (n : ℕ) (list : List ℕ) → firstRefusal (refusals st n (eraseBlocks list)) ≡ none
     → Passed st n (not (goodList (blocks (mapOf st)) list))
 unfolding refusals
-passed-erase st n list e = passed-rows st n writeStatus _ e
+passed-erase st n list e = passed-rows st n writeStatus _ _ e .0
+
+-- nor any that an erase names
+pub erase-unprotected : (st : State) (n : ℕ) (list : List ℕ) → firstRefusal (refusals st n (eraseBlocks list)) ≡ none → reaches (st .protected) list ≡ false
+unfolding refusals
+erase-unprotected st n list e = row-passed (row (reaches (st .protected) list) 15) [] (passed-rows st n writeStatus _ _ e .1) .0
 
 -- ---- the order of the refusals of the calls that are lent the volume
 
@@ -255,15 +324,26 @@ module _ (st : State) (v : List ℕ) (ok : unlawful st ≡ false) (long : st .le
       → (b o : ℕ) (buffer : List ℕ) → blocks (mapOf st) ≤ b → step st v (read b o buffer) ≡ result (refused 2) st v buffer
   unfolding refusals bufferOf
   order-2-read on b o buffer h =
-      sym (refused-step st v (read b o buffer) 2 (lent-2 st _ readStatus _ (lent-passes st _ readStatus ok long on) (le-leb _ _ h)))
+      sym (refused-step st v (read b o buffer) 2 (lent-2 st _ readStatus _ _ (lent-passes st _ readStatus ok long on) (le-leb _ _ h)))
 
   pub order-2-write : flag (st .attributes) writeStatus ≡ true
       → ((b o : ℕ) (new : List ℕ) → blocks (mapOf st) ≤ b → step st v (write b o new) ≡ result (refused 2) st v [])
       × ((list : List ℕ) → goodList (blocks (mapOf st)) list ≡ false → step st v (eraseBlocks list) ≡ result (refused 2) st v [])
   unfolding refusals bufferOf
   order-2-write on = (
-    (λ b o new h. sym (refused-step st v (write b o new) 2 (lent-2 st _ writeStatus _ (lent-passes st _ writeStatus ok long on) (le-leb _ _ h)))),
-    λ list h. sym (refused-step st v (eraseBlocks list) 2 (lent-2 st _ writeStatus _ (lent-passes st _ writeStatus ok long on) (ap not h))),
+    (λ b o new h. sym (refused-step st v (write b o new) 2 (lent-2 st _ writeStatus _ _ (lent-passes st _ writeStatus ok long on) (le-leb _ _ h)))),
+    λ list h. sym (refused-step st v (eraseBlocks list) 2 (lent-2 st _ writeStatus _ _ (lent-passes st _ writeStatus ok long on) (ap not h))),
+  )
+
+  -- 15 after 2: a block that is there and protected, and a good list that names one
+  pub order-15-protected : flag (st .attributes) writeStatus ≡ true
+      → ((b o : ℕ) (new : List ℕ) → b < blocks (mapOf st) → st .protected ≤ b → step st v (write b o new) ≡ result (refused 15) st v [])
+      × ((list : List ℕ) → goodList (blocks (mapOf st)) list ≡ true → (b : ℕ) → T (names list b) → st .protected ≤ b
+      → step st v (eraseBlocks list) ≡ result (refused 15) st v [])
+  unfolding refusals bufferOf
+  order-15-protected on = (
+    (λ b o new h p. sym (refused-step st v (write b o new) 15 (lent-last st _ writeStatus _ _ (lent-passes st _ writeStatus ok long on) (lt-leb _ _ h) ∙ row-applies _ _ _ (le-leb _ _ p)))),
+    λ list h b t p. sym (refused-step st v (eraseBlocks list) 15 (lent-last st _ writeStatus _ _ (lent-passes st _ writeStatus ok long on) (ap not h) ∙ row-applies _ _ _ (names-reaches list (st .protected) b p t))),
   )
 
 -- ---- the other calls' refusals after 111

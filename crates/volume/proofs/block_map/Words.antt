@@ -1,16 +1,16 @@
 -- Laws of a block map's words: one entry at a time, for the loops over them, and what breaks rule 107.
-use Prim.Native.Nat.{ℕ, zero, suc, _+_, _*_, _≤_, _<_, _^_}
+use Prim.Native.Nat.{ℕ, zero, suc, _+_, _*_, _≤_, _<_, _^_, min}
 use mathlib.Core.Path.{_≡_, refl}
 use mathlib.Core.Bool.{Bool, true, false, not, _&&_, _||_, or-true, or-false, and-true, and-assoc}
 use mathlib.Core.List.{List}
 use native.Mathlib.Nat.{mul-le-mul, mul-zero, zero-mul, suc-mul, pos-of-ne-zero}
 use native.Mathlib.Numerals.{add-one}
 use native.Mathlib.Omega.{arith}
-use borrow.Author.Tests.{lt-ltb, le-ltb, ne-eqb, ltb-false, eqb-true, eqb-false, not-false}
+use borrow.Author.Tests.{lt-ltb, le-ltb, eq-eqb, ne-eqb, ltb-false, eqb-true, eqb-false, not-false}
 use lib.Bits.{bitOr, or-zero-l, or-add-and, and-le-r}
 use lib.Dec.{eqb, ltb}
-use lib.ListN.{length, getD, drop, drop-of-length-le}
-use lib.Seq.{drop-cons}
+use lib.ListN.{length, getD, take, drop, drop-of-length-le, length-take}
+use lib.Seq.{drop-cons, getD-take}
 use Rattle.common.specs.Refusals.{any}
 use Rattle.common.proofs.Lists.{drop-two}
 use Rattle.common.proofs.Refusals.{any-passed}
@@ -34,6 +34,16 @@ blocks-end w i h = rw (drop-of-length-le w {i = 2 * i} h)
 pub bytes-end : (w : List ℕ) (i : ℕ) → length w ≤ 2 * i → bytes (drop (2 * i) w) ≡ 0
 unfolding bytes
 bytes-end w i h = rw (drop-of-length-le w {i = 2 * i} h)
+
+-- the same of the first n entries of a map of 64 words: an entry below n and below 32, and the entries from either on
+module _ (map : List ℕ) (n i : ℕ) (h : length map ≡ 64) where
+  pub counted-entry : i < n → i < maxEntries → blocks (drop (2 * i) (take (2 * n) map)) ≡ getD map (2 * i) 0 + blocks (drop (2 * (i + 1)) (take (2 * n) map))
+  counted-entry p q =
+      let inside : 2 * i + 1 < length (take (2 * n) map) = rw (length-take (2 * n) map, h) (omega arith) in
+      rw (getD-take (2 * n) map (2 * i) 0 (omega arith)) at (blocks-entry (take (2 * n) map) i inside)
+
+  pub counted-end : min n maxEntries ≤ i → blocks (drop (2 * i) (take (2 * n) map)) ≡ 0
+  counted-end p = blocks-end (take (2 * n) map) i (rw (length-take (2 * n) map, h) (omega arith))
 
 -- a product of two 32-bit numbers fits 64 bits
 pub product-fits : (a b : ℕ) → a < 2 ^ 32 → b < 2 ^ 32 → a * b < 2 ^ 64
@@ -61,21 +71,22 @@ nonzero-size w i h e =
     go (suc a) zero e = absurd (e (mul-zero (suc a)))
     go (suc a) (suc b) e = rw (ne-eqb (suc a) 0 (λ z. omega arith), ne-eqb (suc b) 0 (λ z. omega arith))
 
--- a zero word, or a total that breaks rule 107: the tests that are left to a walk over the entries
-abbrev pub Totals : List ℕ → ℕ → Bool
-Totals w len = hasZero w || (ltb maxBlocks (blocks w) || not (eqb (bytes w) len))
+-- a zero word, a total that breaks rule 107, or a first protected block past the blocks: the tests that are left to a walk over the entries
+module _ (w : List ℕ) (len protected : ℕ) where
+  abbrev Totals : Bool
+  Totals = hasZero w || (ltb maxBlocks (blocks w) || (not (eqb (bytes w) len) || ltb (blocks w) protected))
 
-pub zero-word : (w : List ℕ) (len : ℕ) → hasZero w ≡ true → true ≡ Totals w len
-zero-word w len h = rw h
+  pub zero-word : hasZero w ≡ true → true ≡ Totals
+  zero-word h = rw h
 
-pub too-many : (w : List ℕ) (len : ℕ) → maxBlocks < blocks w → true ≡ Totals w len
-too-many w len h = rw (lt-ltb maxBlocks (blocks w) h, or-true)
+  pub too-many : maxBlocks < blocks w → true ≡ Totals
+  too-many h = rw (lt-ltb maxBlocks (blocks w) h, or-true)
 
-pub too-long : (w : List ℕ) (len : ℕ) → len < bytes w → true ≡ Totals w len
-too-long w len h = rw (ne-eqb (bytes w) len (λ e. omega arith), or-true, or-true)
+  pub wrong-total : (bytes w ≡ len → ⊥) → true ≡ Totals
+  wrong-total h = rw (ne-eqb (bytes w) len h, or-true, or-true)
 
-pub totals-end : (w : List ℕ) (len b : ℕ) → hasZero w ≡ false → blocks w ≤ maxBlocks → bytes w ≡ b → not (eqb b len) ≡ Totals w len
-totals-end w len b z h e = rw (z, le-ltb maxBlocks (blocks w) h, e)
+  pub totals-end : (b : ℕ) → hasZero w ≡ false → blocks w ≤ maxBlocks → bytes w ≡ len → blocks w ≡ b → ltb b protected ≡ Totals
+  totals-end b z h e q = rw (z, le-ltb maxBlocks (blocks w) h, eq-eqb (bytes w) len e, q)
 
 -- what a map that passes rule 107 is known to be
 pub record Sized (n : ℕ) (w : List ℕ) (len : ℕ) : Type 0 where

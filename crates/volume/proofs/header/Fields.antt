@@ -9,13 +9,14 @@ use native.Mathlib.Omega.{arith}
 use borrow.Author.Tests.{ltb-false, eqb-true, not-false}
 use lib.Dec.{eqb, ltb}
 use lib.ListN.{length, getD, take, drop, replicate}
+use lib.Seq.{take-at}
 use Rattle.common.specs.Answers.{refused, success}
 use Rattle.common.specs.Refusals.{Row, firstRefusal, unlessRefused}
 use Rattle.common.proofs.Refusals.{any-passed, row-passed, then-passed, then-refused}
 use Rattle.common.proofs.Lists.{drop-zeros}
 use Rattle.numbers.specs.LittleEndian.{le}
 use Rattle.volume.specs.Attributes.{knownEdition}
-use Rattle.volume.specs.BlockMap.{maxEntries}
+use Rattle.volume.specs.BlockMap.{maxEntries, blocks}
 use Rattle.volume.specs.State.{stateWith, stateOf, zeroState}
 use Rattle.volume.specs.Header.{guidAt, lengthAt, attributesAt, revisionAt, headerLengthAt, entriesOf, mapStart, wordModulus, wordSum, wordsAt, stateAt, headerLengthFault, minHeader, maxHeader, openRefusals, Opens, opens, opened, openVolume}
 use Rattle.volume.specs.declared.state.State.{State}
@@ -88,9 +89,10 @@ readable s p =
 -- the parts that opening reads, the map's words stored over 64 zeros, make the state
 pub state-parts : (s : List ℕ) (base : ℕ) {len a edition n : ℕ} {map : List ℕ} → len ≡ lengthAt s → a ≡ attributesAt s → edition ≡ revisionAt s
     → n ≡ entriesOf (headerLengthAt s) → map ≡ wordsAt (2 * n) s mapStart ++ drop (2 * n) (replicate 64 0)
-    → stateWith (guidAt s) len a base edition n map ≡ stateAt s base
+    → stateWith (guidAt s) len a base edition (blocks (take (2 * n) map)) n map ≡ stateAt s base
 unfolding stateAt stateOf
-state-parts s base {n = n} l a r e m = rw (l, a, r, m, drop-zeros (2 * n) 64, e)
+state-parts s base {n = n} l a r e m =
+    rw (l, a, r, m, take-at (wordsAt (2 * n) s mapStart) (drop (2 * n) (replicate 64 0)) (2 * n) (length-wordsAt (2 * n) s mapStart), drop-zeros (2 * n) 64, e)
 
 -- a readable header's state keeps the limit of entries
 entries-bound : (s : List ℕ) (base : ℕ) → Readable s → 2 * stateAt s base .entries ≤ 2 * maxEntries

@@ -15,7 +15,7 @@ use Rattle.common.proofs.Refusals.{row-passed, then-passed, then-refused, front
 use Rattle.numbers.specs.LittleEndian.{le}
 use Rattle.numbers.proofs.LittleEndian.{le-same}
 use Rattle.volume.specs.Attributes.{knownEdition, attributesFault, baseFault}
-use Rattle.volume.specs.BlockMap.{hasZero, allZero, sizeFault}
+use Rattle.volume.specs.BlockMap.{blocks, hasZero, allZero, sizeFault}
 use Rattle.volume.specs.ExtendedHeader.{minExtHeader, extOffset, extSizeAt, Entry, extEntryAt, entryFault, entryBefore, entriesIn, entriesFrom, extFault}
 use Rattle.volume.specs.State.{stateWith, stateOf, zeroState, mapOf, unlawful}
 use Rattle.volume.specs.Header.{lengthAt, signature, revisionAt, headerLengthAt, wordsAt, wordSum, runningSums, stateAt, headerLengthFault, mapFault, openRefusals, opens, opened, openVolume, wordModulus}
@@ -255,10 +255,17 @@ zero-beyond s base =
     let n : ℕ = (headerLengthAt s - 64) / 8 in
     rw (drop-at (wordsAt (2 * n) s 56) (replicate (64 - 2 * n) 0) (2 * n) (length-wordsAt (2 * n) s 56)) (all-zeros (64 - 2 * n))
 
+-- and no block of it is protected
+unprotected-at : (s : List ℕ) (base : ℕ) → stateAt s base .protected ≡ blocks (mapOf (stateAt s base))
+unfolding stateAt stateOf stateWith mapOf
+unprotected-at s base =
+    let n : ℕ = (headerLengthAt s - 64) / 8 in
+    ap blocks (sym (take-at (wordsAt (2 * n) s 56) (replicate (64 - 2 * n) 0) (2 * n) (length-wordsAt (2 * n) s 56)))
+
 lawful-from : (s : List ℕ) (st : State) → st .edition ≡ revisionAt s → firstRefusal (openRefusals s st) ≡ none → allZero (drop (2 * st .entries) (st .map)) ≡ true
-    → (unlawful st ≡ false) × (st .length ≤ length s)
+    → st .protected ≡ blocks (mapOf st) → (unlawful st ≡ false) × (st .length ≤ length s)
 unfolding openRefusals mapFault unlawful any
-lawful-from s st edition e zeros =
+lawful-from s st edition e zeros free =
     let r3 = row-passed _ _ (row-passed _ _ (row-passed _ _ e .1) .1) in
     let known : knownEdition (st .edition) ≡ true = ap knownEdition edition ∙ not-false _ (r3 .0) in
     let r5 = row-passed _ _ (row-passed _ _ (r3 .1) .1) in
@@ -267,7 +274,7 @@ lawful-from s st edition e zeros =
     let r8 = row-passed _ _ (r7 .1) in
     let r9 = row-passed _ _ (r8 .1) in
     let r10 = row-passed _ _ (r9 .1) in
-    (rw (known, neither (hasZero (mapOf st)) _ (r6 .0) .0, r7 .0, r8 .0, r10 .0, zeros), ltb-false (length s) (st .length) (r9 .0))
+    (rw (known, neither (hasZero (mapOf st)) _ (r6 .0) .0, r7 .0, r8 .0, r10 .0, zeros, le-ltb (blocks (mapOf st)) (st .protected) (omega arith)), ltb-false (length s) (st .length) (r9 .0))
 
 -- where opening succeeds 112 is not due
 pub opened-extended : (v : List ℕ) (base : ℕ) → openVolume v base .answer ≡ success []
@@ -292,4 +299,10 @@ pub opened-lawful : (v : List ℕ) (base : ℕ) → openVolume v base .answer �
 unfolding openVolume stateAt stateOf stateWith
 opened-lawful v base success-v =
     let e = opened-passed v base success-v in
-    rw e (lawful-from v (stateAt v base) refl e (zero-beyond v base))
+    rw e (lawful-from v (stateAt v base) refl e (zero-beyond v base) (unprotected-at v base))
+
+-- no block of it is protected
+pub opened-unprotected : (v : List ℕ) (base : ℕ) → openVolume v base .answer ≡ success []
+    → openVolume v base .state .protected ≡ blocks (mapOf (openVolume v base .state))
+unfolding openVolume
+opened-unprotected v base success-v = rw (opened-passed v base success-v) (unprotected-at v base)

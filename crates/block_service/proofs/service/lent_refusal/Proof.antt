@@ -18,7 +18,7 @@ entry c = c .before .before
 
 -- a state that passed the first test is lawful
 ok : (c : tie.Else1) (guid : List ℕ)
-    → (let a = entry c .args in unlawful (stateWith guid (a .len) (a .attributes) (a .base) (a .edition) (a .entries) (now (a .map)))) ≡ false
+    → (let a = entry c .args in unlawful (stateWith guid (a .len) (a .attributes) (a .base) (a .edition) (a .protected) (a .entries) (now (a .map)))) ≡ false
 ok c guid = sym (c .before .unlawful-state .ensures guid) ∙ c .if1 .left
 
 unlawful-state-requires : tie.Need-unlawful-state-requires

@@ -7,17 +7,17 @@ use borrow.Author.Needs.{needs}
 use denote.Ref.{now}
 use lib.ListN.{length, getD, drop}
 use Rattle.volume.specs.BlockMap.{blocks, bytes, hasZero, maxLength}
-use Rattle.volume.proofs.block_map.Words.{product-fits, blocks-entry, bytes-entry, blocks-end, bytes-end, hasZero-end, zero-size, nonzero-size, zero-word, too-many, too-long, totals-end}
+use Rattle.volume.proofs.block_map.Words.{product-fits, blocks-entry, bytes-entry, blocks-end, bytes-end, hasZero-end, zero-size, nonzero-size, zero-word, too-many, wrong-total, totals-end}
 use Rattle.volume.proofs.block_map.totals_fault.Statement.{statement}
 use Rattle.volume.proofs.block_map.totals_fault.Tie as tie
 
 abbrev Inv-loop : tie.InvT-loop
-Inv-loop n words len blocks-so-far₀ bytes-so-far₀ i₀ blocks-so-far bytes-so-far i =
+Inv-loop n words len protected blocks-so-far₀ bytes-so-far₀ i₀ blocks-so-far bytes-so-far i =
     (i ≤ n) × (blocks-so-far ≤ 4294967296 * i) × (bytes-so-far ≤ maxLength * i) × (hasZero (drop (2 * i) words) ≡ hasZero words)
     × (blocks-so-far + blocks (drop (2 * i) words) ≡ blocks words) × (bytes-so-far + bytes (drop (2 * i) words) ≡ bytes words)
 
 abbrev μ-loop : tie.MeasureT-loop
-μ-loop n words len blocks-so-far₀ bytes-so-far₀ i₀ blocks-so-far bytes-so-far i = n - i
+μ-loop n words len protected blocks-so-far₀ bytes-so-far₀ i₀ blocks-so-far bytes-so-far i = n - i
 
 -- what the turn at an entry has in hand: the words, the place, and the entry's count and size
 module _ (c : tie.After-wide2 Inv-loop μ-loop) where
@@ -75,10 +75,10 @@ mul-size c = record { fits = product-fits _ _ (search needs) (search needs) }
 returns : tie.Need-returns Inv-loop μ-loop
 returns c =
     let at = c .before in
-    zero-word (words at) _ (sym (at .before .before .before .before .before .loop .inv .3) ∙ zero-size (words at) (place at) (inside at) (sym (size-is at) ∙ c .if1 .taken))
+    zero-word (words at) _ _ (sym (at .before .before .before .before .before .loop .inv .3) ∙ zero-size (words at) (place at) (inside at) (sym (size-is at) ∙ c .if1 .taken))
 
 returns-2 : tie.Need-returns-2 Inv-loop μ-loop
-returns-2 c = let at = c .before .before in too-long (words at) _ (omega (arith, bytes-here at))
+returns-2 c = let at = c .before .before in wrong-total (words at) _ _ (λ e. omega (arith, bytes-here at))
 
 add-blocks-so-far : tie.Need-add-blocks-so-far Inv-loop μ-loop
 add-blocks-so-far c = search needs
@@ -105,16 +105,23 @@ loop-again c =
     )
 
 returns-3 : tie.Need-returns-3 Inv-loop μ-loop
-returns-3 c = let w = now (c .before .before .before .before .args .words) in too-many w _ (omega (arith, blocks-end w (c .before .before .loop .i) (search needs)))
+returns-3 c = let w = now (c .before .before .before .before .args .words) in too-many w _ _ (omega (arith, blocks-end w (c .before .before .loop .i) (search needs)))
 
 returns-4 : tie.Need-returns-4 Inv-loop μ-loop
 returns-4 c =
-    let w = now (c .before .before .before .before .args .words) in
-    let end = c .before .before .loop in
-    totals-end w _ (end .bytes-so-far)
-    (sym (end .inv .3) ∙ sym (hasZero-end w (2 * end .i) (search needs)))
-    (omega (arith, blocks-end w (end .i) (search needs)))
-    (omega (arith, bytes-end w (end .i) (search needs)))
+    let end = c .before .before .before in
+    let w = now (end .before .before .args .words) in
+    wrong-total w _ _ (λ e. c .if4 .taken (omega (arith, bytes-end w (end .loop .i) (search needs))))
+
+returns-5 : tie.Need-returns-5 Inv-loop μ-loop
+returns-5 c =
+    let end = c .before .before .before in
+    let w = now (end .before .before .args .words) in
+    totals-end w _ _ (end .loop .blocks-so-far)
+    (sym (end .loop .inv .3) ∙ sym (hasZero-end w (2 * end .loop .i) (search needs)))
+    (omega (arith, blocks-end w (end .loop .i) (search needs)))
+    (omega (arith, bytes-end w (end .loop .i) (search needs), c .if4 .left))
+    (omega (arith, blocks-end w (end .loop .i) (search needs)))
 
 pub totals-fault-spec : {M : Type 1} → statement M
 totals-fault-spec =
@@ -141,4 +148,5 @@ totals-fault-spec =
     loop-less
     loop-again
     returns-3
-    returns-4)
+    returns-4
+    returns-5)

@@ -33,15 +33,15 @@ three c = c .before .before
 abbrev start : tie.Else1 → tie.Start
 start c = c .before .before .before .before .before .before
 
--- the bytes, the words of the map's entries, and the state that these parts and a GUID make
+-- the bytes, the words of the map's entries, and the state that these parts, a GUID and a first protected block make
 abbrev bytes : tie.Else1 → List ℕ
 bytes c = now (start c .args .s)
 
 abbrev words : tie.Else1 → List ℕ
 words c = take (2 * start c .args .entries) (now (start c .args .map))
 
-abbrev state : tie.Else1 → List ℕ → State
-state c guid = let a = start c .args in stateWith guid (a .len) (a .attributes) (a .base) (a .edition) (a .entries) (now (a .map))
+abbrev state : tie.Else1 → List ℕ → ℕ → State
+state c guid protected = let a = start c .args in stateWith guid (a .len) (a .attributes) (a .base) (a .edition) protected (a .entries) (now (a .map))
 
 -- the tests that each next one stands behind, as the table has them
 nonzero : (c : tie.Else1) → hasZero (words c) ≡ false
@@ -53,9 +53,9 @@ closing c = let s = bytes c in le 8 s (headerLengthAt s - 8)
 closed : (c : tie.After-u64-at) → c .u64-at .result ≡ closing (c .before)
 closed c = rw (c .before .before .before .before .u16-at .ensures) at (c .u64-at .ensures)
 
-mapped : (c : tie.Else2) (guid : List ℕ) → mapFault (bytes (one c)) (state (one c) guid) ≡ false
+mapped : (c : tie.Else2) (guid : List ℕ) (protected : ℕ) → mapFault (bytes (one c)) (state (one c) guid protected) ≡ false
 unfolding mapFault mapOf stateWith
-mapped c guid = rw (nonzero (one c), eq-eqb (closing (one c)) 0 (omega (arith, closed (c .before))))
+mapped c guid protected = rw (nonzero (one c), eq-eqb (closing (one c)) 0 (omega (arith, closed (c .before))))
 
 sized : (c : tie.Else3) → let before = one (two c) in sizeFault (start before .args .entries) (words before) (start before .args .len) ≡ false
 sized c = rw (nonzero (one (two c))) at (sym (c .before .map-fault .ensures) ∙ c .if3 .left)
@@ -83,14 +83,14 @@ has-zero-requires c κs = search needs
 
 returns : tie.Need-returns
 unfolding refusalOf firstRefusal openRefusals mapFault mapOf stateWith
-returns c guid = simp (sym (c .before .has-zero .ensures) ∙ c .if1 .taken)
+returns c guid protected = simp (sym (c .before .has-zero .ensures) ∙ c .if1 .taken)
 
 u64-at-requires : tie.Need-u64-at-requires
 u64-at-requires c κs = search needs
 
 returns-2 : tie.Need-returns-2
 unfolding refusalOf firstRefusal openRefusals mapFault mapOf stateWith
-returns-2 c guid = simp (nonzero (c .before .before), ne-eqb (closing (c .before .before)) 0 (λ e. omega (arith, closed (c .before))))
+returns-2 c guid protected = simp (nonzero (c .before .before), ne-eqb (closing (c .before .before)) 0 (λ e. omega (arith, closed (c .before))))
 
 slice-aggregate-map-fault : tie.Need-slice-aggregate-map-fault
 slice-aggregate-map-fault c = sym (length-take-le _ _ (omega arith))
@@ -100,24 +100,24 @@ map-fault-requires c κs = length-take-le _ _ (omega arith)
 
 returns-3 : tie.Need-returns-3
 unfolding refusalOf firstRefusal openRefusals mapOf stateWith
-returns-3 c guid =
+returns-3 c guid protected =
     let behind = c .before .before .before in
-    simp (mapped behind guid, rw (nonzero (one behind)) at (sym (c .before .map-fault .ensures) ∙ c .if3 .taken))
+    simp (mapped behind guid protected, rw (nonzero (one behind)) at (sym (c .before .map-fault .ensures) ∙ c .if3 .taken))
 
 attributes-fault-requires : tie.Need-attributes-fault-requires
 attributes-fault-requires c κs = search needs
 
 returns-4 : tie.Need-returns-4
 unfolding refusalOf firstRefusal openRefusals mapOf stateWith
-returns-4 c guid =
+returns-4 c guid protected =
     let behind = c .before .before in
-    simp (mapped (two behind) guid, sized behind, sym (c .before .attributes-fault .ensures) ∙ c .if4 .taken)
+    simp (mapped (two behind) guid protected, sized behind, sym (c .before .attributes-fault .ensures) ∙ c .if4 .taken)
 
 returns-5 : tie.Need-returns-5
 unfolding refusalOf firstRefusal openRefusals mapOf stateWith
-returns-5 c guid =
+returns-5 c guid protected =
     let behind = c .before in
-    simp (mapped (two (three behind)) guid, sized (three behind), allowed behind, lt-ltb _ _ (c .if5 .taken))
+    simp (mapped (two (three behind)) guid protected, sized (three behind), allowed behind, lt-ltb _ _ (c .if5 .taken))
 
 base-fault-requires : tie.Need-base-fault-requires
 base-fault-requires c κs = search needs
@@ -145,13 +145,13 @@ told c =
 -- behind 109 the last two rows decide
 returns-6 : tie.Need-returns-6
 unfolding firstRefusal openRefusals mapOf stateWith
-returns-6 c guid =
+returns-6 c guid protected =
     let extended = c .before in
     let long = extended .before .before in
     let behind = long .before in
     c .last-refusal .ensures
     ∙ simp (
-      mapped (two (three behind)) guid,
+      mapped (two (three behind)) guid protected,
       sized (three behind),
       allowed behind,
       le-ltb _ _ (long .if5 .left),

@@ -1,12 +1,14 @@
 -- `volume::header::open_volume` meets its contract: the two tables in a row, and the state whose parts the second judges.
-use Prim.Native.Nat.{ℕ, _-_, _/_}
+use Prim.Native.Nat.{ℕ, _-_, _*_, _/_}
 use mathlib.Core.List.{List}
 use mathlib.Core.Option.{none}
 use mathlib.Core.Path.{_≡_, sym, ap, _∙_}
 use native.Mathlib.Omega.{arith}
 use borrow.Author.Needs.{needs}
 use denote.Ref.{now}
+use lib.ListN.{take}
 use Rattle.common.specs.Refusals.{firstRefusal}
+use Rattle.volume.specs.BlockMap.{blocks}
 use Rattle.volume.specs.Header.{entriesOf, guidAt, openingAnswer, refusalOf, stateAt}
 use Rattle.volume.specs.State.{stateWith}
 use Rattle.volume.proofs.header.Fields.{bytesRefusals, fieldsRefusals, state-parts, readable, open-early, open-late, open-success}
@@ -48,15 +50,21 @@ module _ (c : tie.After-fields-refusal) where
   abbrev base : ℕ
   base = begun (read c) .before .before .before .before .args .base
 
+  abbrev entries : ℕ
+  entries = (counted (read c) .u16-at .result - 64) / 8
+
+  abbrev words : List ℕ
+  words = read c .read-map .last .1 .1 .0
+
   parts : stateWith (guidAt header) (measured (read c) .u64-at .result) (attributed (read c) .u32-at .result) base (revised (read c) .byte-at .result)
-      ((counted (read c) .u16-at .result - 64) / 8) (read c .read-map .last .1 .1 .0)
+      (blocks (take (2 * entries) words)) entries words
       ≡ stateAt header base
   parts =
       state-parts header base (measured (read c) .u64-at .ensures) (attributed (read c) .u32-at .ensures) (revised (read c) .byte-at .ensures) (ap entriesOf (counted (read c) .u16-at .ensures))
       (read c .read-map .ensures)
 
   judged : refusalOf (c .fields-refusal .result) ≡ firstRefusal (fieldsRefusals header (stateAt header base))
-  judged = rw parts at (c .fields-refusal .ensures (guidAt header))
+  judged = rw parts at (c .fields-refusal .ensures (guidAt header) (blocks (take (2 * entries) words)))
 
 bytes-refusal-requires : tie.Need-bytes-refusal-requires
 bytes-refusal-requires c κs = search needs
@@ -128,15 +136,19 @@ enum-told-2 c = search needs
 guid-at-requires : tie.Need-guid-at-requires
 guid-at-requires c κs = let r = readable _ (read-on (begun (read (c .before .before)))) in omega arith
 
+block-count-requires : tie.Need-block-count-requires
+block-count-requires c κs = search needs
+
 state-with-requires : tie.Need-state-with-requires
 state-with-requires c κs = search needs
 
 returns-3 : tie.Need-returns-3
 unfolding openingAnswer refusalOf
 returns-3 c =
-    let told = c .before .before in
+    let counted = c .before in
+    let told = counted .before .before .before in
     let tested = told .before .before in
-    rw (c .state-with .ensures, c .before .guid-at .ensures, parts tested)
+    rw (c .state-with .ensures, counted .before .before .guid-at .ensures, counted .block-count .ensures, parts tested)
     (open-success _ _ (read-on (begun (read tested))) (sym (judged tested) ∙ ap refusalOf (told .enum-told2 .given .1)))
 
 pub open-volume-spec : {M : Type 1} → statement M
@@ -164,5 +176,6 @@ open-volume-spec =
     returns-2
     enum-told-2
     guid-at-requires
+    block-count-requires
     state-with-requires
     returns-3)

@@ -1,5 +1,6 @@
 -- `volume::header::refuse` meets its contract: the zero state, written out.
 use borrow.Author.Needs.{needs}
+use Rattle.volume.specs.BlockMap.{blocks}
 use Rattle.volume.specs.Header.{openingAnswer}
 use Rattle.volume.specs.State.{stateOf, zeroState}
 use Rattle.volume.proofs.header.refuse.Statement.{statement}
@@ -9,7 +10,7 @@ state-with-requires : tie.Need-state-with-requires
 state-with-requires c κs = search needs
 
 returns : tie.Need-returns
-unfolding openingAnswer zeroState stateOf
+unfolding openingAnswer zeroState stateOf blocks
 returns c = rw (c .state-with .ensures)
 
 pub refuse-spec : {M : Type 1} → statement M

@@ -40,15 +40,15 @@ returns-2 c guid =
 mul-end : tie.Need-mul-end
 mul-end c = search needs
 
-slice-aggregate-map-fault : tie.Need-slice-aggregate-map-fault
-slice-aggregate-map-fault c = sym (length-take-le _ _ (omega (arith, map-length (c .before))))
+slice-aggregate-protected-map-fault : tie.Need-slice-aggregate-protected-map-fault
+slice-aggregate-protected-map-fault c = sym (length-take-le _ _ (omega (arith, map-length (c .before))))
 
-map-fault-requires : tie.Need-map-fault-requires
-map-fault-requires c κs = length-take-le _ _ (omega (arith, map-length (c .before)))
+protected-map-fault-requires : tie.Need-protected-map-fault-requires
+protected-map-fault-requires c κs = length-take-le _ _ (omega (arith, map-length (c .before)))
 
 returns-3 : tie.Need-returns-3
 unfolding stateWith mapOf
-returns-3 c guid = simp (unlawful-is, sym (c .before .map-fault .ensures) ∙ c .if3 .taken, or-true)
+returns-3 c guid = simp (unlawful-is, sym (c .before .protected-map-fault .ensures) ∙ c .if3 .taken, or-true)
 
 attributes-fault-requires : tie.Need-attributes-fault-requires
 attributes-fault-requires c κs = search needs
@@ -92,7 +92,7 @@ returns-6 c guid =
     rw (
       unlawful-is,
       sym (known .before .edition-fault .ensures) ∙ known .if1 .left,
-      sym (sized .before .map-fault .ensures) ∙ sized .if3 .left,
+      sym (sized .before .protected-map-fault .ensures) ∙ sized .if3 .left,
       sym (attributed .before .attributes-fault .ensures) ∙ attributed .if4 .left,
       sym (based .before .base-fault .ensures) ∙ based .if5 .left,
       ← whole,
@@ -106,8 +106,8 @@ unlawful-state-spec =
     returns
     returns-2
     mul-end
-    slice-aggregate-map-fault
-    map-fault-requires
+    slice-aggregate-protected-map-fault
+    protected-map-fault-requires
     returns-3
     attributes-fault-requires
     returns-4
