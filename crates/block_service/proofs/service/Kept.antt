@@ -1,5 +1,5 @@
 -- What holds of all the calls: which things none of them changes, that a lawful state stays lawful, what locks keep, and what protection keeps.
-use Prim.Native.Nat.{ℕ, _+_, _-_, _/_, _%_, _≤_, _<_}
+use Prim.Native.Nat.{ℕ, _+_, _-_, _/_, _%_, _≤_}
 use mathlib.Core.Bool.{Bool, true, false, not, cond, _&&_, _||_, true≢false}
 use mathlib.Core.List.{List, [], _∷_}
 use mathlib.Core.Option.{Option, none, some}
@@ -14,23 +14,23 @@ use Rattle.common.proofs.Bits.{bit, masked-bit, above-mask, apart-mask}
 use Rattle.common.proofs.Edit.{length-edit}
 use Rattle.common.proofs.Refusals.{row-passed, any-passed}
 use Rattle.volume.specs.Attributes.{flag, readStatus, writeStatus, lockStatus, readLockStatus, writeLockStatus, reservedBits, attributesFault, baseFault}
-use Rattle.volume.specs.BlockMap.{blocks, bytes}
+use Rattle.volume.specs.BlockMap.{blocks}
 use Rattle.volume.specs.State.{mapOf, unlawful, stateWith}
 use Rattle.volume.specs.declared.state.State.{State}
 use Rattle.volume.proofs.state.Lawful.{lawful}
-use Rattle.block_service.specs.Access.{countMoved}
 use Rattle.block_service.specs.Blocks.{place, inBlock}
+use Rattle.block_service.specs.Erase.{names}
 use Rattle.block_service.specs.Service.{Call, getAttributes, setAttributes, getPhysicalAddress, getBlockSize, read, write, eraseBlocks, protectBlocks, refusals, effect, Result}
 use Rattle.block_service.specs.Service.{perform, bufferOf, step, decide, Effect, reply, setTo, copyOut, change, withAttributes, withProtected}
 use Rattle.block_service.specs.Settings.{statusBits, changesFixed, raises, clears, breaksLock, changesLocked, settingRefusals}
 use Rattle.block_service.specs.declared.blocks.Place.{Place}
 use Rattle.block_service.specs.declared.blocks.Place.the-variants.{At, Missing}
-use Rattle.block_service.proofs.blocks.Places.{found-within, place-lost, past-every-block, in-one-block}
+use Rattle.block_service.proofs.blocks.Places.{place-lost, past-every-block, in-one-block}
 use Rattle.block_service.proofs.erase.Lists.{names-reaches}
 use Rattle.block_service.proofs.service.Erasing.{erase-other}
 use Rattle.block_service.proofs.service.Moving.{write-other, write-in-block}
 use Rattle.block_service.proofs.service.Protecting.{protect-passed, lower-lawful}
-use Rattle.block_service.proofs.service.Steps.{refused-step, allowed-step, allowed-answers, passed-write, write-unprotected, passed-erase, erase-unprotected}
+use Rattle.block_service.proofs.service.Steps.{refused-step, allowed-step, quiet-step, allowed-answers, passed-write, write-unprotected, passed-erase, erase-unprotected}
 use Rattle.block_service.proofs.settings.Rules.{same-fixed, fixed-bits}
 
 -- ---- what no call changes
@@ -90,38 +90,45 @@ follows-state st v w c e = rw e (go (decide st (length w) c))
     go (copyOut at n a) = (refl, refl)
     go (change f a) = (refl, refl)
 
--- a call that passed its table changes no byte past the state's length
-allowed-past : (st : State) (v : List ℕ) (c : Call) (i : ℕ) → st .length ≤ i → firstRefusal (refusals st (length v) c) ≡ none
-    → getD (step st v c .volume) i 0 ≡ getD v i 0
-unfolding perform effect countMoved
-allowed-past st v getAttributes i h e = sym (ap (λ (r : Result). getD (r .volume) i 0) (allowed-step st v getAttributes e))
-allowed-past st v (setAttributes new) i h e = sym (ap (λ (r : Result). getD (r .volume) i 0) (allowed-step st v (setAttributes new) e))
-allowed-past st v getPhysicalAddress i h e = sym (ap (λ (r : Result). getD (r .volume) i 0) (allowed-step st v getPhysicalAddress e))
-allowed-past st v (getBlockSize b) i h e = sym (ap (λ (r : Result). getD (r .volume) i 0) (allowed-step st v (getBlockSize b) e))
-allowed-past st v (read b o buffer) i h e = sym (ap (λ (r : Result). getD (r .volume) i 0) (allowed-step st v (read b o buffer) e))
-allowed-past st v (write b o new) i h e =
-    let p = passed-write st (length v) b o new e in
-    go (place (mapOf st) b) refl (p .lawful .total) (leb-false _ _ (p .last))
+-- a byte that no write and no erase which passes its table reaches stays: it lies in no block that the one starts in or the other names
+byte-kept : (st : State) (v : List ℕ) (i : ℕ)
+    → ((b o : ℕ) (new : List ℕ) → firstRefusal (refusals st (length v) (write b o new)) ≡ none → T (inBlock (mapOf st) b i) → ⊥)
+    → ((list : List ℕ) (b : ℕ) → firstRefusal (refusals st (length v) (eraseBlocks list)) ≡ none → T (names list b) → T (inBlock (mapOf st) b i) → ⊥)
+    → (c : Call) → getD (step st v c .volume) i 0 ≡ getD v i 0
+unfolding perform effect
+byte-kept st v i writes erases c = go (firstRefusal (refusals st (length v) c)) refl
   where
-    go : (x : Place) → place (mapOf st) b ≡ x → bytes (mapOf st) ≡ st .length → b < blocks (mapOf st)
+    moved : (b o : ℕ) (new : List ℕ) → firstRefusal (refusals st (length v) (write b o new)) ≡ none → (x : Place) → place (mapOf st) b ≡ x
         → getD (step st v (write b o new) .volume) i 0 ≡ getD v i 0
-    go (At e' s l r) at t k =
+    moved b o new e (At e' s l r) at =
         write-other st v b o new (allowed-answers st v (write b o new) e) e' s l r at i
-        (λ p q. let w = found-within (mapOf st) b e' s l r at in omega arith)
-    go Missing at t k = absurd (omega (arith, place-lost (mapOf st) b at))
-allowed-past st v (eraseBlocks list) i h e =
-    let p = passed-erase st (length v) list e in
-    erase-other st v list (sym (ap (λ (r : Result). r .answer) (allowed-step st v (eraseBlocks list) e))) i
-    (λ b t k. past-every-block (mapOf st) b i (omega (arith, p .lawful .total)) k)
-allowed-past st v (protectBlocks first) i h e = sym (ap (λ (r : Result). getD (r .volume) i 0) (allowed-step st v (protectBlocks first) e))
+        (λ p q.
+        let z : s + o + (i - (s + o)) ≡ i = omega arith in
+        let t = write-in-block st v b o new (allowed-answers st v (write b o new) e) e' s l r at (i - (s + o)) (omega arith) in
+        writes b o new e (rw z at t))
+    moved b o new e Missing at = absurd (omega (arith, place-lost (mapOf st) b at, leb-false (blocks (mapOf st)) b (passed-write st (length v) b o new e .last)))
+
+    allowed : (c : Call) → firstRefusal (refusals st (length v) c) ≡ none → getD (step st v c .volume) i 0 ≡ getD v i 0
+    allowed getAttributes e = ap (λ (w : List ℕ). getD w i 0) (quiet-step st v getAttributes refl)
+    allowed (setAttributes new) e = ap (λ (w : List ℕ). getD w i 0) (quiet-step st v (setAttributes new) refl)
+    allowed getPhysicalAddress e = ap (λ (w : List ℕ). getD w i 0) (quiet-step st v getPhysicalAddress refl)
+    allowed (getBlockSize b) e = ap (λ (w : List ℕ). getD w i 0) (quiet-step st v (getBlockSize b) refl)
+    allowed (read b o buffer) e = ap (λ (w : List ℕ). getD w i 0) (quiet-step st v (read b o buffer) refl)
+    allowed (write b o new) e = moved b o new e (place (mapOf st) b) refl
+    allowed (eraseBlocks list) e =
+        erase-other st v list (sym (ap (λ (r : Result). r .answer) (allowed-step st v (eraseBlocks list) e))) i (λ b t k. erases list b e t k)
+    allowed (protectBlocks first) e = ap (λ (w : List ℕ). getD w i 0) (quiet-step st v (protectBlocks first) refl)
+
+    go : (o : Option ℕ) → firstRefusal (refusals st (length v) c) ≡ o → getD (step st v c .volume) i 0 ≡ getD v i 0
+    go (some n) e = ap (λ (r : Result). getD (r .volume) i 0) (sym (refused-step st v c n e))
+    go none e = allowed c e
 
 -- volume bytes past the state's length never change
 pub past-length-kept : (st : State) (v : List ℕ) (c : Call) (i : ℕ) → st .length ≤ i → getD (step st v c .volume) i 0 ≡ getD v i 0
-past-length-kept st v c i h = go (firstRefusal (refusals st (length v) c)) refl
-  where
-    go : (o : Option ℕ) → firstRefusal (refusals st (length v) c) ≡ o → getD (step st v c .volume) i 0 ≡ getD v i 0
-    go (some n) e = ap (λ (r : Result). getD (r .volume) i 0) (sym (refused-step st v c n e))
-    go none e = allowed-past st v c i h e
+past-length-kept st v c i h =
+    byte-kept st v i
+    (λ b o new e. past-every-block (mapOf st) b i (omega (arith, passed-write st (length v) b o new e .lawful .total)))
+    (λ list b e t. past-every-block (mapOf st) b i (omega (arith, passed-erase st (length v) list e .lawful .total))) c
 
 -- ---- a lawful state stays lawful
 
@@ -261,38 +268,13 @@ protection-kept st v c other = go (firstRefusal (refusals st (length v) c)) refl
     go (some n) e = ap (λ (r : Result). r .state .protected) (sym (refused-step st v c n e))
     go none e = ap (λ (r : Result). r .state .protected) (sym (allowed-step st v c e)) ∙ allowed c other
 
--- a call that passed its table changes no byte of a protected block
-allowed-protected : (st : State) (v : List ℕ) (c : Call) (b i : ℕ) → st .protected ≤ b → T (inBlock (mapOf st) b i) → firstRefusal (refusals st (length v) c) ≡ none
-    → getD (step st v c .volume) i 0 ≡ getD v i 0
-unfolding perform effect
-allowed-protected st v getAttributes b i h k e = sym (ap (λ (r : Result). getD (r .volume) i 0) (allowed-step st v getAttributes e))
-allowed-protected st v (setAttributes new) b i h k e = sym (ap (λ (r : Result). getD (r .volume) i 0) (allowed-step st v (setAttributes new) e))
-allowed-protected st v getPhysicalAddress b i h k e = sym (ap (λ (r : Result). getD (r .volume) i 0) (allowed-step st v getPhysicalAddress e))
-allowed-protected st v (getBlockSize a) b i h k e = sym (ap (λ (r : Result). getD (r .volume) i 0) (allowed-step st v (getBlockSize a) e))
-allowed-protected st v (read a o buffer) b i h k e = sym (ap (λ (r : Result). getD (r .volume) i 0) (allowed-step st v (read a o buffer) e))
-allowed-protected st v (write a o new) b i h k e =
-    go (place (mapOf st) a) refl (leb-false _ _ (passed-write st (length v) a o new e .last))
-  where
-    go : (x : Place) → place (mapOf st) a ≡ x → a < blocks (mapOf st) → getD (step st v (write a o new) .volume) i 0 ≡ getD v i 0
-    go (At e' s l r) at w =
-        write-other st v a o new (allowed-answers st v (write a o new) e) e' s l r at i
-        (λ p q.
-        let z : s + o + (i - (s + o)) ≡ i = omega arith in
-        let t = write-in-block st v a o new (allowed-answers st v (write a o new) e) e' s l r at (i - (s + o)) (omega arith) in
-        let same : a ≡ b = in-one-block (mapOf st) a b i (rw z at t) k in
-        omega (arith, write-unprotected st (length v) a o new e))
-    go Missing at w = absurd (omega (arith, place-lost (mapOf st) a at))
-allowed-protected st v (eraseBlocks list) b i h k e =
-    erase-other st v list (sym (ap (λ (r : Result). r .answer) (allowed-step st v (eraseBlocks list) e))) i
-    (λ a t m.
-    let same : a ≡ b = in-one-block (mapOf st) a b i m k in
-    true≢false (sym (names-reaches list (st .protected) a (omega arith) t) ∙ erase-unprotected st (length v) list e))
-allowed-protected st v (protectBlocks first) b i h k e = sym (ap (λ (r : Result). getD (r .volume) i 0) (allowed-step st v (protectBlocks first) e))
-
--- no call does, whether it is refused or not
+-- no call changes a byte of a protected block
 pub protected-kept : (st : State) (v : List ℕ) (c : Call) (b i : ℕ) → st .protected ≤ b → T (inBlock (mapOf st) b i) → getD (step st v c .volume) i 0 ≡ getD v i 0
-protected-kept st v c b i h k = go (firstRefusal (refusals st (length v) c)) refl
-  where
-    go : (o : Option ℕ) → firstRefusal (refusals st (length v) c) ≡ o → getD (step st v c .volume) i 0 ≡ getD v i 0
-    go (some n) e = ap (λ (r : Result). getD (r .volume) i 0) (sym (refused-step st v c n e))
-    go none e = allowed-protected st v c b i h k e
+protected-kept st v c b i h k =
+    byte-kept st v i
+    (λ a o new e t.
+    let same : a ≡ b = in-one-block (mapOf st) a b i t k in
+    omega (arith, write-unprotected st (length v) a o new e))
+    (λ list a e n t.
+    let same : a ≡ b = in-one-block (mapOf st) a b i t k in
+    true≢false (sym (names-reaches list (st .protected) a (omega arith) n) ∙ erase-unprotected st (length v) list e)) c
