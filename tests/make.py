@@ -14,11 +14,11 @@ from pathlib import Path
 sys.dont_write_bytecode = True
 
 import trial
-from cases import editions, headers, protection, service, streams
+from cases import editions, headers, long_headers, protection, service, streams
 from model.volume import listing
 
 ROOT = Path(__file__).resolve().parent.parent
-LONGEST = 524288        # bytes of a script that the program reads
+LONGEST = 655360        # bytes of a script that the program reads
 
 
 def said(name):
@@ -38,7 +38,7 @@ def checked(cases):
 
 
 def made():
-    return list(checked(pair for part in (headers, editions, service, protection, streams) for pair in part.cases()))
+    return list(checked(pair for part in (headers, editions, service, protection, streams, long_headers) for pair in part.cases()))
 
 
 def files(cases):

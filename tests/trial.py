@@ -7,6 +7,7 @@ the model alone. README.md beside this file has both formats.
 from collections import namedtuple
 
 from model import sections, volume
+from model.sections import FRAMEWORK
 
 Case = namedtuple("Case", "name script lines numbers")     # numbers: the answer of each line
 
@@ -83,8 +84,11 @@ def change_fields(before, after):
     count, first, last = 0, None, None
     for (at, old), (_, new) in zip(blocks(before), blocks(after)):
         if old != new:
-            places = [at + i for i in range(len(new)) if old[i] != new[i]]
-            count, first, last = count + len(places), places[0] if first is None else first, places[-1]
+            n = len(new)
+            differ = (int.from_bytes(old, "big") ^ int.from_bytes(new, "big")).to_bytes(n, "big")
+            count += n - differ.count(0)
+            first = at + n - len(differ.lstrip(b"\0")) if first is None else first
+            last = at + len(differ.rstrip(b"\0")) - 1
     if not count:
         return [0, checksum(after)]
     return [count, first, last, shown(after[first:last + 1]), checksum(after)]
@@ -218,26 +222,35 @@ def run(name, own, calls, lent=None, base=0, pattern=PATTERN, state=None):
     return Case(name, script, lines, numbers)
 
 
-def search_fields(stream, kind, instance):
-    no, first, end = sections.search(stream, kind, instance)
+def search_fields(stream, kind, instance, mode):
+    no, first, end = sections.search(stream, kind, instance, mode)
     return [kind, instance] + answer_fields(no, first, end) + ([shown(stream[first:end])] if no == 0 else [])
 
 
-def searching(name, stream, kind, instance):
-    script = items(name.encode(), number(4), stream, bytes([kind]), number(instance))
-    fields = search_fields(stream, kind, instance)
-    return Case(name, script, [line(name, "search", *fields)], [fields[2]])
+def in_mode(word, mode):
+    """The call's word, and the script items that stand after those of both modes."""
+    return (word, []) if mode == FRAMEWORK else (word + " pi", [number(mode)])
 
 
-def appending(name, room, used, kind, body, stream=b"", instance=0, pattern=PATTERN, buffer=ROOM):
+def searching(name, stream, kind, instance, mode=FRAMEWORK):
+    word, more = in_mode("search", mode)
+    script = items(name.encode(), number(4), stream, bytes([kind]), number(instance), *more)
+    fields = search_fields(stream, kind, instance, mode)
+    return Case(name, script, [line(name, word, *fields)], [fields[2]])
+
+
+def appending(name, room, used, kind, body, stream=b"", instance=0, pattern=PATTERN, buffer=ROOM, mode=FRAMEWORK):
     before = prepared(stream, pattern, buffer)
     after = bytearray(before)
     part = after[:room]
-    no, count = sections.append(part, used, kind, body)
+    no, count = sections.append(part, used, kind, body, mode)
     after[:room] = part
     shown_stream = after[:count if no == 0 else used]
     fields = answer_fields(no, count) + change_fields(before, after)
+    word, more = in_mode("append", mode)
+    if buffer != ROOM:
+        more = [number(mode), number(buffer)]
     script = items(name.encode(), number(5), number(room), number(used), bytes([kind]), body,
-                   stream, pattern_item(pattern), number(instance))
-    fields += search_fields(bytes(shown_stream), kind, instance)
-    return Case(name, script, [line(name, "append", *fields)], [no])
+                   stream, pattern_item(pattern), number(instance), *more)
+    fields += search_fields(bytes(shown_stream), kind, instance, mode)
+    return Case(name, script, [line(name, word, *fields)], [no])

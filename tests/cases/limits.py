@@ -1,26 +1,34 @@
-"""At the limits: 16,777,216 bytes of a volume or a stream, 16,777,215 of a section.
+"""At the limits: 16,777,216 bytes of a volume or a stream, 16,777,215 of a section; in PI mode 67,108,864 of a stream, and long
+headers from 16,777,215 bytes of a section on.
 
 The lines are those of headers.py, editions.py and streams.py. Bodies of one byte value with a mark at each end.
 """
 
+from functools import partial
+
 from cases.editions import entry, extended, image
 from cases.headers import header
-from cases.streams import BODY, COMPRESSION, FREE_FORM, RAW, VERSION, compression, section
+from cases.long_headers import long_compression, long_guided, long_section, pi
+from cases.streams import BODY, COMPRESSION, FREE_FORM, GUID_DEFINED, RAW, VERSION, compression, guided, section, stream
+from model.sections import PI
 from trial import ERASED, appending, ext_entry, opening, searching
 
-LIMIT = 16777216        # bytes of a volume, and of a stream
-LARGEST = LIMIT - 1     # bytes of a section
-ROOM = LIMIT + 8        # bytes of the section buffer, and of the lent volume at most
+LIMIT = 16777216        # bytes of a volume, and of a stream in Framework mode
+LARGEST = LIMIT - 1     # bytes of a section in Framework mode
+PI_LIMIT = 67108864     # bytes of a stream in PI mode
+VOLUME = LIMIT + 8      # bytes of the lent volume at most
+LENT = LIMIT + 8        # bytes of the section buffer in Framework mode
+ROOM = PI_LIMIT + 8     # bytes of the section buffer in PI mode, at most
 
 
 def open_cases():
     for map_words, name in (([1, LIMIT], "one block"), ([4096, 4096], "4,096 blocks"), ([65536, 256], "65,536 blocks"), ([65535, 256, 1, 256], "65,536 blocks in two entries")):
-        yield opening("16,777,216 bytes, %s, open" % name, header(map_words), LIMIT, working=ROOM)
-    yield opening("16,777,216 bytes and more lent, open", header([1, LIMIT]), ROOM, working=ROOM)
-    yield opening("16,777,216 bytes, one less lent: 109", header([1, LIMIT]), LIMIT - 1, working=ROOM)
-    yield opening("16,777,217 bytes: 107", header([1, LIMIT + 1]), ROOM, working=ROOM)
-    yield opening("16,777,217 bytes in two blocks: 107", header([1, LIMIT, 1, 1]), ROOM, working=ROOM)
-    yield opening("65,537 blocks, all there: 107", header([65537, 255]), ROOM, working=ROOM)
+        yield opening("16,777,216 bytes, %s, open" % name, header(map_words), LIMIT, working=VOLUME)
+    yield opening("16,777,216 bytes and more lent, open", header([1, LIMIT]), VOLUME, working=VOLUME)
+    yield opening("16,777,216 bytes, one less lent: 109", header([1, LIMIT]), LIMIT - 1, working=VOLUME)
+    yield opening("16,777,217 bytes: 107", header([1, LIMIT + 1]), VOLUME, working=VOLUME)
+    yield opening("16,777,217 bytes in two blocks: 107", header([1, LIMIT, 1, 1]), VOLUME, working=VOLUME)
+    yield opening("65,537 blocks, all there: 107", header([65537, 255]), VOLUME, working=VOLUME)
 
 
 # 65,535 is the largest size of an entry, and 256 of them behind byte 256 end with the volume. FF all over is such an entry of type 65,535.
@@ -29,17 +37,17 @@ LARGEST_ENTRIES = 20 + 256 * 65535
 
 def extended_cases():
     full = image(extended(size=LARGEST_ENTRIES), 236, [1, LIMIT])
-    yield "open", opening("edition 2, 256 entries of 65,535 bytes, open", full, LIMIT, working=ROOM)
+    yield "open", opening("edition 2, 256 entries of 65,535 bytes, open", full, LIMIT, working=VOLUME)
     late = image(extended(size=LARGEST_ENTRIES), 237, [1, LIMIT])
-    yield "open", opening("edition 2, 256 entries of 65,535 bytes, one byte past the volume: 112", late, ROOM, working=ROOM)
+    yield "open", opening("edition 2, 256 entries of 65,535 bytes, one byte past the volume: 112", late, VOLUME, working=VOLUME)
     for n in (0, 255):
-        yield "ext entry", ext_entry("entry %d of 256" % n, full, LIMIT, n, working=ROOM)
-    yield "ext entry", ext_entry("entry 256 of 256: 14", full, LIMIT, 256, working=ROOM)
+        yield "ext entry", ext_entry("entry %d of 256" % n, full, LIMIT, n, working=VOLUME)
+    yield "ext entry", ext_entry("entry 256 of 256: 14", full, LIMIT, 256, working=VOLUME)
     count = (LIMIT - 92) // 4
     many = image(extended(entry(4) * count), map_words=[1, LIMIT])
-    yield "ext entry", ext_entry("the last of 4,194,281 entries", many, LIMIT, count - 1, working=ROOM)
+    yield "ext entry", ext_entry("the last of 4,194,281 entries", many, LIMIT, count - 1, working=VOLUME)
     cut = image(extended(entry(4) * (count - 1), entry(5, body=b"")), map_words=[1, LIMIT])
-    yield "ext entry", ext_entry("the last of 4,194,281 entries one byte too long: 112", cut, LIMIT, 0, working=ROOM)
+    yield "ext entry", ext_entry("the last of 4,194,281 entries one byte too long: 112", cut, LIMIT, 0, working=VOLUME)
 
 
 def body(size):
@@ -67,32 +75,132 @@ def search_cases():
     yield searching("one of 1,048,576 sections too few: 14", many, RAW, 1048576)
 
 
-def long_appending(name, room, used, kind, added, stream=b"", instance=0):
-    return appending(name, room, used, kind, added, stream, instance, ERASED, ROOM)
+def pi_search_cases():
+    """Past the limits of Framework mode."""
+    yield pi("a stream of 16,777,216 bytes", section(RAW, body(LIMIT - 12)) + section(RAW, b"four"), RAW, 1)
+    yield pi("a stream of 16,777,217 bytes", section(RAW, body(LIMIT - 12)) + section(RAW, b"fives"), RAW, 1)
+    yield pi("a short section of 16,777,214 bytes, then a long one", stream(section(RAW, body(LARGEST - 5)), long_section(RAW, BODY)), RAW, 1)
+    for size in (LARGEST - 1, LARGEST, LIMIT, LIMIT + 1):
+        yield pi("a long section of %d bytes" % size, long_section(RAW, body(size - 8)), RAW, 0)
+        yield pi("a long section of %d bytes, one short: 203" % size, long_section(RAW, body(size - 9), size), RAW, 0)
+    yield pi("a long section of 16,777,217 bytes, then a short one", stream(long_section(RAW, body(LIMIT - 7)), section(RAW, BODY)), RAW, 1)
+    for short, long, name in ((compression, long_compression, "compression"), (guided, long_guided, "GUID-defined")):
+        inner = long_section(RAW, body(LIMIT - 100))
+        past = long_section(RAW, body(LIMIT - 100), len(inner) + 1)
+        yield pi("16,777,124 bytes inside a short %s" % name, short(inner), RAW, 0)
+        yield pi("16,777,124 bytes inside a short %s, one past its end: 203" % name, short(past) + bytes(8), RAW, 0)
+        yield pi("16,777,214 bytes, short, inside a long %s" % name, long(section(RAW, body(LARGEST - 5))), RAW, 0)
+        yield pi("65,537 bytes inside a long %s" % name, long(long_section(RAW, body(65529))), RAW, 0)
+    yield pi("free-form of 16,777,216 bytes", long_section(FREE_FORM, body(LIMIT - 8)), FREE_FORM, 0)
+    yield pi("data offset 65,535", long_guided(section(RAW, BODY), offset=65535, more=bytes(65535 - 28)), RAW, 0)
+    yield pi("data offset 65,535 in a section of 65,534: 204", long_guided(b"", offset=65535, more=bytes(65534 - 28)), RAW, 0)
+
+
+def field_cases():
+    """A size field of FF FF FF on as many bytes, in both modes."""
+    for size, end in ((LARGEST, ""), (LIMIT, ": 203"), (LARGEST - 3, ": 201"), (7, ": 202")):
+        data = long_section(RAW, body(LARGEST - 8), size)
+        yield "search", searching("FF FF FF and then %d on 16,777,215 bytes" % size, data, RAW, 0)
+        yield "search pi", pi("FF FF FF and then %d on 16,777,215 bytes%s" % (size, end), data, RAW, 0)
+
+
+def pi_limit_cases():
+    """Streams of 67,108,864 bytes."""
+    whole = long_section(RAW, body(PI_LIMIT - 8))
+    yield pi("a long section of 67,108,864 bytes", whole, RAW, 0)
+    yield pi("a long section of 67,108,864 bytes, one short: 203", whole[:-1], RAW, 0)
+    yield pi("a stream of 67,108,865 bytes, one left: 206", whole + bytes(1), RAW, 0)
+    yield pi("a stream of 67,108,868 bytes, no other fault: 206", whole + section(RAW), RAW, 0)
+    yield pi("67,108,864 bytes, a type that is not there: 14", whole, VERSION, 0)
+    padded = long_section(RAW, body(PI_LIMIT - 9))
+    yield pi("67,108,864 bytes, padding that is not zero: 207", padded + b"\x01", RAW, 0)
+    yield pi("67,108,865 bytes, padding that is not zero: 206", padded + b"\x01\x00", RAW, 0)
+    yield pi("67,108,864 bytes of zero: 202", bytes(PI_LIMIT), RAW, 0)
+    yield pi("67,108,865 bytes of zero: 206", bytes(PI_LIMIT + 1), RAW, 0)
+    for held, kind, name in ((long_compression(long_section(RAW, body(PI_LIMIT - 21))), COMPRESSION, "compression"),
+                             (long_guided(long_section(RAW, body(PI_LIMIT - 36))), GUID_DEFINED, "GUID-defined")):
+        yield pi("a long %s of 67,108,864 bytes" % name, held, kind, 0)
+        yield pi("inside a long %s of 67,108,864 bytes" % name, held, RAW, 0)
+    wrong = long_compression(long_section(RAW, body(PI_LIMIT - 21)), unpacked=PI_LIMIT - 9)
+    yield pi("a long compression of 67,108,864 bytes, unpacked length size - 9: 204", wrong, RAW, 0)
+    many = section(RAW, bytes(60)) * (PI_LIMIT // 64)
+    yield pi("the last of 1,048,576 sections of 64 bytes", many, RAW, 1048575)
+    yield pi("one of 1,048,576 sections of 64 bytes too few: 14", many, RAW, 1048576)
+
+
+long_appending = partial(appending, pattern=ERASED, buffer=LENT)
 
 
 def append_cases():
     largest = body(LARGEST - 4)
     over = body(LARGEST - 3)
-    yield long_appending("body of 16,777,211", ROOM, 0, RAW, largest)
-    yield long_appending("body of 16,777,212: 206", ROOM, 0, RAW, over)
+    yield long_appending("body of 16,777,211", LENT, 0, RAW, largest)
+    yield long_appending("body of 16,777,212: 206", LENT, 0, RAW, over)
     yield long_appending("body of 16,777,211, room just enough", LARGEST, 0, RAW, largest)
     yield long_appending("body of 16,777,211, room one byte short: 5", LARGEST - 1, 0, RAW, largest)
     yield long_appending("206 before 5, by size: 206", 16, 0, RAW, over)
     yield long_appending("body of 16,777,211 in 16 bytes: 5", 16, 0, RAW, largest)
-    yield long_appending("2 before 206, a holder: 2", ROOM, 0, COMPRESSION, over)
+    yield long_appending("2 before 206, a holder: 2", LENT, 0, COMPRESSION, over)
     yield long_appending("2 before 206, used above the buffer: 2", 16, 17, RAW, over)
     for used, size, no in ((LIMIT - 8, 4, 0), (LIMIT - 8, 5, 206), (LIMIT - 7, 0, 0), (LIMIT - 7, 1, 206), (LIMIT - 4, 0, 0), (LIMIT - 3, 0, 206)):
         name = "after %d bytes, body of %d%s" % (used, size, ": 206" if no else "")
-        yield long_appending(name, ROOM, used, RAW, (BODY * 2)[:size], section(RAW, body(used - 4)), 1)
+        yield long_appending(name, LENT, used, RAW, (BODY * 2)[:size], section(RAW, body(used - 4)), 1)
     full = section(RAW, body(LARGEST - 4)) + bytes(1)
-    yield long_appending("after a full stream: 206", ROOM, LIMIT, RAW, b"", full)
-    yield long_appending("every byte of the buffer used: 206", ROOM, ROOM, RAW, b"", full)
-    yield long_appending("used one above the buffer: 2", ROOM, ROOM + 1, RAW, b"", full)
-    yield long_appending("202 before 206: 202", ROOM, LIMIT, FREE_FORM, bytes(15), full)
-    yield long_appending("free-form body of 16 after a full stream: 206", ROOM, LIMIT, FREE_FORM, bytes(16), full)
+    yield long_appending("after a full stream: 206", LENT, LIMIT, RAW, b"", full)
+    yield long_appending("every byte of the buffer used: 206", LENT, LENT, RAW, b"", full)
+    yield long_appending("used one above the buffer: 2", LENT, LENT + 1, RAW, b"", full)
+    yield long_appending("202 before 206: 202", LENT, LIMIT, FREE_FORM, bytes(15), full)
+    yield long_appending("free-form body of 16 after a full stream: 206", LENT, LIMIT, FREE_FORM, bytes(16), full)
     yield long_appending("206 before 5, by the stream: 206", LIMIT - 3, LIMIT - 3, RAW, b"", section(RAW, body(LIMIT - 7)))
     yield long_appending("room for the used bytes alone: 5", LIMIT - 4, LIMIT - 4, RAW, b"", section(RAW, body(LIMIT - 8)))
+
+
+pi_appending = partial(long_appending, buffer=ROOM, mode=PI)
+
+
+NEAR = LIMIT + 64       # bytes of the section buffer for the last short header and the first long one
+near_appending = partial(pi_appending, buffer=NEAR)
+
+
+def pi_append_cases():
+    """A body of 16,777,210 bytes has the last short header."""
+    for size, header_size in ((LARGEST - 5, 4), (LARGEST - 4, 8), (LARGEST - 3, 8)):
+        name, need = "body of %d" % size, header_size + size
+        for used, old, instance in ((0, b"", 0), (1, b"\x01", 0), (4, section(RAW), 1)):
+            start = (used + 3) // 4 * 4
+            yield near_appending("%s after %d bytes, room just enough" % (name, used), start + need, used, RAW, body(size), old, instance)
+        yield near_appending("%s, room one byte short: 5" % name, need - 1, 0, RAW, body(size))
+    yield near_appending("body of 16,777,211 after 1 byte, room one byte short: 5", 16777222, 1, RAW, body(LARGEST - 4), b"\x01")
+    yield near_appending("body of 16,777,211, room enough with a short header: 5", 16777215, 0, RAW, body(LARGEST - 4))
+    yield near_appending("body of 16,777,211, room to spare", NEAR, 0, RAW, body(LARGEST - 4))
+    yield near_appending("free-form body of 16,777,211", NEAR, 0, FREE_FORM, body(LARGEST - 4))
+    old = long_section(RAW, body(LARGEST - 4))
+    yield near_appending("after a long section of 16,777,219 bytes", NEAR, len(old), RAW, BODY, old, 1)
+    yield pi_appending("body of 16,777,211 after a long section as long", ROOM, len(old), RAW, body(LARGEST - 4), old, 1)
+
+
+def pi_append_limit_cases():
+    """A new stream of 67,108,864 bytes, and more."""
+    largest, over = body(PI_LIMIT - 8), body(PI_LIMIT - 7)
+    yield pi_appending("body of 67,108,856, room just enough", PI_LIMIT, 0, RAW, largest)
+    yield pi_appending("body of 67,108,856, room one byte short: 5", PI_LIMIT - 1, 0, RAW, largest)
+    yield pi_appending("body of 67,108,857: 206", ROOM, 0, RAW, over)
+    yield pi_appending("206 before 5: 206", 16, 0, RAW, over)
+    yield pi_appending("body of 67,108,856 in 16 bytes: 5", 16, 0, RAW, largest)
+    yield pi_appending("2 before 206, a holder: 2", ROOM, 0, GUID_DEFINED, over)
+    yield pi_appending("2 before 206, used above the buffer: 2", 16, 17, RAW, over)
+    yield pi_appending("body of 67,108,861, over the limit with any header: 206", ROOM, 0, RAW, body(PI_LIMIT - 3))
+    for used, size, no in ((PI_LIMIT - 8, 4, 0), (PI_LIMIT - 8, 5, 206), (PI_LIMIT - 7, 0, 0), (PI_LIMIT - 7, 1, 206), (PI_LIMIT - 3, 0, 206)):
+        name = "after %d bytes, body of %d%s" % (used, size, ": 206" if no else "")
+        yield pi_appending(name, ROOM, used, RAW, (BODY * 2)[:size], long_section(RAW, body(used - 8)), 1)
+    # 50,331,648 and 16,777,216 are the limit: with a header of 4 bytes these would fit.
+    for used, no in ((50331648, 206), (50331644, 0)):
+        name = "after %d bytes, body of 16,777,212%s" % (used, ": 206" if no else "")
+        yield pi_appending(name, ROOM, used, RAW, body(LARGEST - 3), long_section(RAW, body(used - 8)), 1)
+    yield pi_appending("after 50331645 bytes, body of 16,777,211, over the limit by the padding: 206", ROOM, 50331645, RAW, body(LARGEST - 4), long_section(RAW, body(50331637)), 1)
+    full = long_section(RAW, body(PI_LIMIT - 8))
+    yield pi_appending("after a full stream: 206", ROOM, PI_LIMIT, RAW, b"", full)
+    yield pi_appending("202 before 206: 202", ROOM, PI_LIMIT, FREE_FORM, bytes(15), full)
 
 
 def cases():
@@ -103,3 +211,11 @@ def cases():
         yield "search", case
     for case in append_cases():
         yield "append", case
+    yield from field_cases()
+    yield "search", searching("67,108,864 bytes in Framework mode: 206", long_section(RAW, body(PI_LIMIT - 8)), RAW, 0)
+    for group in (pi_search_cases, pi_limit_cases):
+        for case in group():
+            yield "search pi", case
+    for group in (pi_append_cases, pi_append_limit_cases):
+        for case in group():
+            yield "append pi", case

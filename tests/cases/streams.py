@@ -3,7 +3,8 @@
 A line of a case: its name, the call, and
   search  type, instance, number, first byte and end on success, the first bytes of the part
   append  number, used count on success, the buffer's change, then a search as above in the new stream
-README.md has the fields of a change. A name's end says which refusal the case gets.
+README.md has the fields of a change. A name's end says which refusal the case gets. Most groups can be made with another
+`searching` or `appending`: long_headers.py makes them in PI mode too.
 """
 
 from trial import appending, searching
@@ -54,7 +55,7 @@ def type_cases():
         yield searching("type 0x%02X of 3 bytes: 202" % kind, section(kind, size=3), kind, 0)
 
 
-def instance_cases():
+def instance_cases(searching=searching):
     p13 = bytes.fromhex("05000019AA00000004000019")
     for instance in (0, 1):
         yield searching("stream of P13, raw instance %d" % instance, p13, RAW, instance)
@@ -95,9 +96,9 @@ def size_cases():
     yield searching("a second section past the end: 203", stream(section(RAW), section(RAW, b"", 5)), RAW, 0)
 
 
-def holder_cases():
+def holder_cases(searching=searching):
     leaf = section(RAW, BODY)
-    for unpacked, name in ((6, "one less"), (8, "one more"), (0, "0"), (2**32 - 1, "2^32 - 1")):
+    for unpacked, name in ((6, "one less"), (8, "one more"), (0, "0"), (7 + 2**24, "right in 24 bits"), (2**32 - 1, "2^32 - 1")):
         yield searching("kind 0, unpacked length %s: 204" % name, compression(leaf, unpacked=unpacked), RAW, 0)
     yield searching("kind 0, unpacked length right", compression(leaf), RAW, 0)
     for kind in (1, 2, 255):
@@ -108,6 +109,7 @@ def holder_cases():
         yield searching("data offset %d, packed: 204" % offset, guided(leaf, 1, offset), RAW, 0)
     yield searching("data offset 24", guided(leaf), RAW, 0)
     yield searching("data offset 28, contents after it", guided(leaf, offset=28, more=b"more"), RAW, 0)
+    yield searching("data offset 300, contents after it", guided(leaf, offset=300, more=bytes(276)), RAW, 0)
     yield searching("data offset 25, contents aligned from there", guided(stream(leaf, leaf), offset=25, more=b"m"), RAW, 1)
     yield searching("data offset equal to the size, no contents: 14", guided(b"\x01\x02\x03", offset=27), RAW, 0)
     for attributes, name in ((1, "bit 0"), (3, "bits 0 and 1"), (0xFFFF, "every bit")):
@@ -119,7 +121,7 @@ def holder_cases():
     yield searching("inner padding that the holder's end cuts off", stream(compression(leaf), section(VERSION, b"\x01")), VERSION, 0)
 
 
-def level_cases():
+def level_cases(searching=searching):
     leaf = section(RAW, BODY)
     for holder, name in ((compression, "compression"), (guided, "GUID-defined")):
         for levels in range(1, 8):
@@ -137,7 +139,7 @@ def level_cases():
     yield searching("levels count along one branch", stream(nested(7, leaf), nested(7, leaf)), RAW, 1)
 
 
-def padding_cases():
+def padding_cases(searching=searching):
     one = section(RAW, b"\xaa")
     yield searching("padding cut off by the end", one, RAW, 0)
     for have in (1, 2, 3):
@@ -150,7 +152,7 @@ def padding_cases():
     yield searching("nonzero padding after a holder: 207", compression(b"") + b"\x01\x00\x00" + one, RAW, 0)
 
 
-def order_cases():
+def order_cases(searching=searching):
     leaf, one = section(RAW), section(RAW, b"\xaa")
     yield searching("202 before 203: 202", section(FREE_FORM, b"", 19), RAW, 0)
     yield searching("203 before 204, compression: 203", section(COMPRESSION, b"\x63" + bytes(4), 10), RAW, 0)
@@ -167,7 +169,7 @@ def order_cases():
     yield searching("a fault before 14: 201", leaf + b"\x00", VERSION, 0)
 
 
-def append_cases():
+def append_cases(appending=appending):
     two = stream(section(RAW, b"\x01"), section(VERSION, b"\x02\x03"))
     for kind in KNOWN + UNKNOWN:
         yield appending("type 0x%02X into an empty stream" % kind, 64, 0, kind, BODY)

@@ -1,12 +1,16 @@
-"""Section streams, as the scope document describes them: the test of the whole
-tree, the search for a type and instance, and appending a leaf.
+"""Section streams, as the scope document describes them, with request i of 02: the test of the
+whole tree, the search for a type and instance, and appending a leaf.
 
-search answers (number, first byte, end), append (number, used count).
+Mode 0 is Framework, any other PI; there a size field of FF FF FF means that a 32-bit size
+stands behind the type. search answers (number, first byte, end), append (number, used count).
 """
 
+FRAMEWORK, PI = 0, 1
 COMPRESSION, GUID_DEFINED, FREE_FORM = 0x01, 0x02, 0x18
-LEAST_SIZE = {COMPRESSION: 9, GUID_DEFINED: 24, FREE_FORM: 20}
-LIMIT, LEVELS = 16777216, 8
+FIELDS = {COMPRESSION: 5, GUID_DEFINED: 20, FREE_FORM: 16}      # bytes between header and contents
+LONG = 0xFFFFFF         # the size field before a 32-bit size
+SHORT_HEADER, LONG_HEADER = 4, 8
+LIMIT, PI_LIMIT, LEVELS = 16777216, 67108864, 8
 
 
 class Fault(Exception):
@@ -17,51 +21,66 @@ def number(data, place, width):
     return int.from_bytes(data[place:place + width], "little")
 
 
-def contents_start(stream, at, kind, size):
-    """Where the contents to be searched start, or None; raises 204."""
-    if kind == COMPRESSION and stream[at + 8] == 0:
-        if number(stream, at + 4, 4) != size - 9:
+def stream_limit(mode):
+    return LIMIT if mode == FRAMEWORK else PI_LIMIT
+
+
+def size_and_header(stream, at, end, mode):
+    """The size of the section that starts there and the length of its header; raises 201."""
+    if end - at < SHORT_HEADER:
+        raise Fault(201)
+    size = number(stream, at, 3)
+    if mode == FRAMEWORK or size != LONG:
+        return size, SHORT_HEADER
+    if end - at < LONG_HEADER:
+        raise Fault(201)
+    return number(stream, at + 4, 4), LONG_HEADER
+
+
+def contents_offset(section, kind, header, size):
+    """Where in the section the contents to be searched start, or None; raises 204."""
+    if kind == COMPRESSION and section[header + 4] == 0:
+        if number(section, header, 4) != size - (header + 5):
             raise Fault(204)
-        return at + 9
+        return header + 5
     if kind == GUID_DEFINED:
-        offset = number(stream, at + 20, 2)
-        if offset < 24 or offset > size:
+        offset = number(section, header + 16, 2)
+        if offset < header + 20 or offset > size:
             raise Fault(204)
-        if not stream[at + 22] & 1:
-            return at + offset
+        if not section[header + 18] & 1:
+            return offset
     return None
 
 
-def walk(stream, start, end, level, found):
+def walk(stream, start, end, level, mode, found):
     """Appends (type, first byte, end) of each section in walk order."""
     at = start
     while at < end:
-        if end - at < 4:
-            raise Fault(201)
-        size, kind = number(stream, at, 3), stream[at + 3]
-        if size < LEAST_SIZE.get(kind, 4):
+        size, header = size_and_header(stream, at, end, mode)
+        kind = stream[at + 3]
+        if size < header + FIELDS.get(kind, 0):
             raise Fault(202)
         if at + size > end:
             raise Fault(203)
-        inner = contents_start(stream, at, kind, size)
+        inner = contents_offset(stream[at:at + min(size, 28)], kind, header, size)
         if inner is not None and level == LEVELS:
             raise Fault(205)
-        found.append((kind, at + 4, at + size))
+        found.append((kind, at + header, at + size))
         if inner is not None:
-            walk(stream, inner, at + size, level + 1, found)
+            walk(stream, at + inner, at + size, level + 1, mode, found)
         padded = min(end, start + (at + size - start + 3) // 4 * 4)
         if any(stream[at + size:padded]):
             raise Fault(207)
         at = padded
 
 
-def search(stream, kind, instance):
+def search(stream, kind, instance, mode=FRAMEWORK):
     """(number, first byte, end)"""
-    if len(stream) > LIMIT:
+    if len(stream) > stream_limit(mode):
         return 206, 0, 0
     found = []
     try:
-        walk(stream, 0, len(stream), 1, found)
+        walk(stream, 0, len(stream), 1, mode, found)
     except Fault as fault:
         return fault.args[0], 0, 0
     matches = [(first, end) for k, first, end in found if k == kind]
@@ -70,18 +89,21 @@ def search(stream, kind, instance):
     return (0,) + matches[instance]
 
 
-def append(buffer, used, kind, body):
+def append(buffer, used, kind, body, mode=FRAMEWORK):
     """(number, used count)"""
     if kind in (COMPRESSION, GUID_DEFINED) or used > len(buffer):
         return 2, 0
     if kind == FREE_FORM and len(body) < 16:
         return 202, 0
-    size = 4 + len(body)
+    long = mode != FRAMEWORK and SHORT_HEADER + len(body) >= LONG
+    size = (LONG_HEADER if long else SHORT_HEADER) + len(body)
     start = (used + 3) // 4 * 4
-    if size > LIMIT - 1 or start + size > LIMIT:
+    if mode == FRAMEWORK and size > LONG or start + size > stream_limit(mode):
         return 206, 0
     if start + size > len(buffer):
         return 5, 0
+    field = LONG if long else size
+    header = field.to_bytes(3, "little") + bytes([kind]) + (size.to_bytes(4, "little") if long else b"")
     buffer[used:start] = bytes(start - used)
-    buffer[start:start + size] = size.to_bytes(3, "little") + bytes([kind]) + body
+    buffer[start:start + size] = header + body
     return 0, start + size

@@ -1,1 +1,2 @@
+pub mod FrameworkMode
 pub mod Theorems

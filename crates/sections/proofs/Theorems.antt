@@ -1,32 +1,49 @@
--- The theorems of this crate, in document 01's order ("Sections"): 01's words, the statement over the definitions of specs/ that the
+-- The theorems of this crate, in document 01's order ("Sections"; 02, i): their words, the statement over the definitions of specs/ that the
 -- contracts cite, and where it is proved.
 use Prim.Native.Nat.{ℕ, suc, _+_, _-_, _%_, _≤_, _<_}
-use mathlib.Core.Path.{_≡_, refl, sym}
+use mathlib.Core.Path.{_≡_, refl}
 use mathlib.Core.Bool.{true, false}
 use mathlib.Core.List.{List, [], _∷_, _++_}
 use mathlib.Core.Logic.{_⊎_, _↔_}
 use mathlib.Core.Option.{none, some}
 use lib.ListN.{length, getD, take}
+use native.Mathlib.Omega.{arith}
 use Rattle.common.specs.Answers.{refused, success, numberOf}
-use Rattle.sections.specs.Types.{typeIs, typeInfo}
-use Rattle.sections.specs.Header.{sizeAt, typeAt, unpackedLength, compressionKind, dataOffset, attributes, sectionAt, headAt}
-use Rattle.sections.specs.Walk.{Trace, done, fault, section, andThen, aligned, zeros, part, afterPadding, walk, streamLimit, streamWalk}
-use Rattle.sections.specs.Search.{sections, firstFault, searchOf, WellFormed, countOf}
-use Rattle.sections.specs.Append.{appendOf, bufferAfter}
+use Rattle.common.specs.Refusals.{firstRefusal}
+use Rattle.numbers.specs.LittleEndian.{le, leBytes}
+use Rattle.sections.specs.Types.{typeIs, infoAmong, typeInfo}
+use Rattle.sections.specs.Header.{sizeField, isLong, headerLength, sizeAt, typeAt, grown, leastSize, unpackedLength, compressionKind, dataOffset, attributes}
+use Rattle.sections.specs.Header.{contentsAt, packed, wrongContents, sizeFaults, headFaults, sectionOf, sectionAt, headAt}
+use Rattle.sections.specs.Walk.{Trace, done, fault, section, andThen, aligned, zeros, part, afterPadding, meet, siblings, walk, streamLimit, streamWalk}
+use Rattle.sections.specs.Search.{sections, firstFault, ofType, searchOf, WellFormed, countOf}
+use Rattle.sections.specs.Append.{leafHeader, leafStart, usedAfter, appendOf, bufferAfter}
+use Rattle.sections.specs.declared.header.Mode.{Mode}
+use Rattle.sections.specs.declared.header.Mode.the-variants.{Framework, Pi}
 use Rattle.sections.specs.declared.types.TypeName.the-variants.{Unknown}
 use Rattle.sections.specs.declared.types.Class.the-variants.{PlainLeaf}
 use Rattle.sections.specs.declared.header.Head.the-variants.{Fault, Closed, Open}
+use Rattle.sections.proofs.FrameworkMode as framework
 use Rattle.sections.proofs.types.Rows as rows
-use Rattle.sections.proofs.header.Tests as tests
+use Rattle.sections.proofs.header.Sizes as sizes
 use Rattle.sections.proofs.header.Cases as cases
 use Rattle.sections.proofs.header.Extent as extent
 use Rattle.sections.proofs.walk.Padding as padding
 use Rattle.sections.proofs.walk.Starts as starts
 use Rattle.sections.proofs.search.Order as order
+use Rattle.sections.proofs.search.Modes as modes
 use Rattle.sections.proofs.search.Shown as shown
 use Rattle.sections.proofs.search.Unread as unread
 use Rattle.sections.proofs.append.Refusals as refusals
 use Rattle.sections.proofs.append.Stream as stream
+
+-- what the example of the two modes computes with: the header at a start, and the rest
+unfoldable headers : Unit {0}
+unfolding le infoAmong typeInfo firstRefusal isLong headerLength sizeAt sizeFaults headFaults packed contentsAt wrongContents sectionOf headAt
+headers = tt
+
+unfoldable examples : Unit {0}
+unfolding headers zeros afterPadding meet andThen siblings walk streamLimit streamWalk sections firstFault ofType searchOf
+examples = tt
 
 -- ---- types and classes
 
@@ -43,114 +60,143 @@ types-unknown = rows.unlisted
 -- ---- the header at a start
 
 module _ (s : List ℕ) (at : ℕ) where
+  -- "in the PI edition a size of FF FF FF means that a 32-bit size follows the type, the header then 8 bytes"
+  pub pi-long : sizeField s at ≡ 0xFFFFFF → (headerLength Pi s at ≡ 8) × (sizeAt Pi s at ≡ le 4 s (at + 4))
+  pi-long field = let e = sizes.pi-long Pi s at refl field in (sizes.long-header Pi s at e, sizes.long-size Pi s at e)
+
+  pub pi-short : (sizeField s at ≡ 0xFFFFFF → ⊥) → (headerLength Pi s at ≡ 4) × (sizeAt Pi s at ≡ sizeField s at)
+  pi-short field = let e = sizes.not-long Pi s at field in (sizes.short-header Pi s at e, sizes.short-size Pi s at e)
+
+  -- "Framework files keep the old meaning"
+  pub framework-short : (headerLength Framework s at ≡ 4) × (sizeAt Framework s at ≡ sizeField s at)
+  framework-short =
+      let e = sizes.not-long-framework (sizeField s at) in
+      (sizes.short-header Framework s at e, sizes.short-size Framework s at e)
+
+module _ (mode : Mode) (s : List ℕ) (at : ℕ) where
+  -- the length of the header, the size and the type there, and the bytes left
+  abbrev h : ℕ
+  h = headerLength mode s at
+
+  abbrev z : ℕ
+  z = sizeAt mode s at
+
+  abbrev t : ℕ
+  t = typeAt s at
+
+  abbrev left : ℕ
+  left = length s - at
+
   -- a section that passes 201 to 203, by its type
-  module _ (four : 4 ≤ length s - at) (least : typeInfo (typeAt s at) .least ≤ sizeAt s at) (fits : sizeAt s at ≤ length s - at) where
+  module _ (headed : h ≤ left) (least : leastSize h t ≤ z) (fits : z ≤ left) where
+    passes : sizes.Fits mode left s at
+    passes = let r = sizes.header-range mode s at in record { four = omega arith; headed = headed; least = least; fits = fits }
+
     -- "a section is a 24-bit size (header included), an 8-bit type, then the rest": a type that is no holder is not opened
-    pub leaf-closed : (typeAt s at ≡ 0x01 → ⊥) → (typeAt s at ≡ 0x02 → ⊥) → headAt s at ≡ Closed (typeAt s at) (at + 4) (at + sizeAt s at)
-    leaf-closed = cases.leaf-closed s at four least fits
+    pub leaf-closed : (t ≡ 0x01 → ⊥) → (t ≡ 0x02 → ⊥) → headAt mode s at ≡ Closed t (at + h) (at + z)
+    leaf-closed = cases.leaf-closed mode s at passes
 
     -- "compression: .. contents from byte 9; contents are searched only for kind 0"
-    pub compression-open : typeAt s at ≡ 0x01 → compressionKind s at ≡ 0 → unpackedLength s at ≡ sizeAt s at - 9
-        → headAt s at ≡ Open 0x01 (at + 4) (at + 9) (at + sizeAt s at)
-    compression-open = cases.compression-open s at four least fits
+    pub compression-open : t ≡ 0x01 → compressionKind s (at + h) ≡ 0 → unpackedLength s (at + h) ≡ z - grown h 9
+        → headAt mode s at ≡ Open 0x01 (at + h) (at + grown h 9) (at + z)
+    compression-open = cases.compression-open mode s at passes
 
-    pub compression-closed : typeAt s at ≡ 0x01 → (compressionKind s at ≡ 0 → ⊥) → headAt s at ≡ Closed 0x01 (at + 4) (at + sizeAt s at)
-    compression-closed = cases.compression-closed s at four least fits
+    pub compression-closed : t ≡ 0x01 → (compressionKind s (at + h) ≡ 0 → ⊥) → headAt mode s at ≡ Closed 0x01 (at + h) (at + z)
+    compression-closed = cases.compression-closed mode s at passes
 
     -- "GUID-defined: .. contents from the offset; searched only if attribute bit 0 is clear"
-    pub guid-open : typeAt s at ≡ 0x02 → 24 ≤ dataOffset s at → dataOffset s at ≤ sizeAt s at → attributes s at % 2 ≡ 0
-        → headAt s at ≡ Open 0x02 (at + 4) (at + dataOffset s at) (at + sizeAt s at)
-    guid-open = cases.guid-open s at four least fits
+    pub guid-open : t ≡ 0x02 → grown h 24 ≤ dataOffset s (at + h) → dataOffset s (at + h) ≤ z → attributes s (at + h) % 2 ≡ 0
+        → headAt mode s at ≡ Open 0x02 (at + h) (at + dataOffset s (at + h)) (at + z)
+    guid-open = cases.guid-open mode s at passes
 
-    pub guid-closed : typeAt s at ≡ 0x02 → 24 ≤ dataOffset s at → dataOffset s at ≤ sizeAt s at → attributes s at % 2 ≡ 1
-        → headAt s at ≡ Closed 0x02 (at + 4) (at + sizeAt s at)
-    guid-closed = cases.guid-closed s at four least fits
+    pub guid-closed : t ≡ 0x02 → grown h 24 ≤ dataOffset s (at + h) → dataOffset s (at + h) ≤ z → attributes s (at + h) % 2 ≡ 1
+        → headAt mode s at ≡ Closed 0x02 (at + h) (at + z)
+    guid-closed = cases.guid-closed mode s at passes
 
-  -- "201 1 to 3 bytes left at a start"
-  pub header-201 : length s - at < 4 → headAt s at ≡ Fault 201
-  header-201 few = sym (tests.head-201 s at few)
+    -- "204 kind 0 with unpacked length not size minus 9, or data offset below 24 or above size"
+    pub header-204 : ((t ≡ 0x01) × (compressionKind s (at + h) ≡ 0) × (unpackedLength s (at + h) ≡ z - grown h 9 → ⊥))
+        ⊎ ((t ≡ 0x02) × ((dataOffset s (at + h) < grown h 24) ⊎ (z < dataOffset s (at + h))))
+        → headAt mode s at ≡ Fault 204
+    header-204 = cases.head-204 mode s at passes
 
-  -- "202 size below 4 (9 for compression, 24 GUID-defined, 20 free-form GUID)"
-  pub header-202 : 4 ≤ length s - at → sizeAt s at < typeInfo (typeAt s at) .least → headAt s at ≡ Fault 202
-  header-202 four small = sym (tests.head-202 s at refl refl refl four small)
+    -- where none of the tests applies, the section is there
+    pub header-accepted : (t ≡ 0x01 → compressionKind s (at + h) ≡ 0 → unpackedLength s (at + h) ≡ z - grown h 9)
+        → (t ≡ 0x02 → (grown h 24 ≤ dataOffset s (at + h)) × (dataOffset s (at + h) ≤ z))
+        → headAt mode s at ≡ sectionAt mode s at
+    header-accepted = cases.accepted mode s at passes
+
+  -- "201 1 to 3 bytes left at a start", "201 also where fewer than 8 bytes are left for a long header"
+  pub header-201 : left < h → headAt mode s at ≡ Fault 201
+  header-201 = cases.head-201 mode s at
+
+  -- "202 size below 4 (9 for compression, 24 GUID-defined, 20 free-form GUID)", with a long header 4 more
+  pub header-202 : h ≤ left → z < leastSize h t → headAt mode s at ≡ Fault 202
+  header-202 = cases.head-202 mode s at
 
   -- "203 end past the holding stream"
-  pub header-203 : 4 ≤ length s - at → typeInfo (typeAt s at) .least ≤ sizeAt s at → length s - at < sizeAt s at → headAt s at ≡ Fault 203
-  header-203 four least past = sym (tests.head-203 s at refl refl refl four least past)
-
-  -- "204 kind 0 with unpacked length not size minus 9, or data offset below 24 or above size"
-  pub header-204 : 4 ≤ length s - at → typeInfo (typeAt s at) .least ≤ sizeAt s at → sizeAt s at ≤ length s - at
-      → ((typeAt s at ≡ 0x01) × (compressionKind s at ≡ 0) × (unpackedLength s at ≡ sizeAt s at - 9 → ⊥))
-      ⊎ ((typeAt s at ≡ 0x02) × ((dataOffset s at < 24) ⊎ (sizeAt s at < dataOffset s at)))
-      → headAt s at ≡ Fault 204
-  header-204 = cases.head-204 s at
+  pub header-203 : h ≤ left → leastSize h t ≤ z → left < z → headAt mode s at ≡ Fault 203
+  header-203 = cases.head-203 mode s at
 
   -- "given exactly when", "first that applies": a fault has one of these four numbers, and its test is the first that applies
-  pub header-faults : (n : ℕ) → (headAt s at ≡ Fault n)
-      ↔ ((n ≡ 201) × (length s - at < 4))
-      ⊎ ((n ≡ 202) × (4 ≤ length s - at) × (sizeAt s at < typeInfo (typeAt s at) .least))
-      ⊎ ((n ≡ 203) × (4 ≤ length s - at) × (typeInfo (typeAt s at) .least ≤ sizeAt s at) × (length s - at < sizeAt s at))
-      ⊎ ((n ≡ 204) × (4 ≤ length s - at) × (typeInfo (typeAt s at) .least ≤ sizeAt s at) × (sizeAt s at ≤ length s - at) × cases.Wrong s at)
-  header-faults = cases.faults-exactly s at
+  pub header-faults : (n : ℕ) → (headAt mode s at ≡ Fault n)
+      ↔ ((n ≡ 201) × (left < h))
+      ⊎ ((n ≡ 202) × (h ≤ left) × (z < leastSize h t))
+      ⊎ ((n ≡ 203) × (h ≤ left) × (leastSize h t ≤ z) × (left < z))
+      ⊎ ((n ≡ 204) × (h ≤ left) × (leastSize h t ≤ z) × (z ≤ left) × cases.Wrong s at t h z)
+  header-faults = cases.faults-exactly mode s at
 
   -- so at a start stands the first fault that applies, or the section, which passed each of these tests
-  pub header-cases : ((n : ℕ) × (headAt s at ≡ Fault n) × cases.FirstFault s at n) ⊎ ((headAt s at ≡ sectionAt s at) × cases.Whole s at)
-  header-cases = cases.head-cases s at
+  pub header-cases : ((n : ℕ) × (headAt mode s at ≡ Fault n) × cases.FirstFault mode s at n) ⊎ ((headAt mode s at ≡ sectionAt mode s at) × cases.Whole mode s at)
+  header-cases = cases.head-cases mode s at
 
-  -- and where none of the four tests applies, the section is there
-  pub header-accepted : 4 ≤ length s - at → typeInfo (typeAt s at) .least ≤ sizeAt s at → sizeAt s at ≤ length s - at
-      → (typeAt s at ≡ 0x01 → compressionKind s at ≡ 0 → unpackedLength s at ≡ sizeAt s at - 9)
-      → (typeAt s at ≡ 0x02 → (24 ≤ dataOffset s at) × (dataOffset s at ≤ sizeAt s at))
-      → headAt s at ≡ sectionAt s at
-  header-accepted = cases.accepted s at
+  -- a section shows what follows its header, and lies inside its stream; contents that are searched lie inside their section
+  pub closed-within : {t′ first e : ℕ} → headAt mode s at ≡ Closed t′ first e
+      → (at + leastSize h t′ ≤ e) × (first ≡ at + h) × (at + 4 ≤ first) × (first ≤ e) × (e ≤ length s)
+  closed-within = extent.closed-within mode s at
 
-  -- a section shows what follows its first 4 bytes, and lies inside its stream; contents that are searched lie inside their section
-  pub closed-within : {t first e : ℕ} → headAt s at ≡ Closed t first e → (at + typeInfo t .least ≤ e) × (first ≡ at + 4) × (first ≤ e) × (e ≤ length s)
-  closed-within = extent.closed-within s at
-
-  pub open-within : {t first f e : ℕ} → headAt s at ≡ Open t first f e
-      → (at + typeInfo t .least ≤ f) × (first ≡ at + 4) × (first ≤ f) × (f ≤ e) × (e ≤ length s)
-  open-within = extent.open-within s at
+  pub open-within : {t′ first f e : ℕ} → headAt mode s at ≡ Open t′ first f e
+      → (at + leastSize h t′ ≤ f) × (first ≡ at + h) × (at + 4 ≤ first) × (first ≤ f) × (f ≤ e) × (e ≤ length s)
+  open-within = extent.open-within mode s at
 
 -- ---- the walk
 
 -- "depth first, left to right": at the end of a stream nothing more; at a start what stands there, a holder's children, its padding and
 -- the walk at the next start. The equation has no number that bounds it, and nothing but the walk obeys it
-pub walk-law : starts.Law starts.walkFrom
+pub walk-law : (mode : Mode) → starts.Law mode (starts.walkFrom mode)
 walk-law = starts.walk-law
 
-pub walk-only : (W : ℕ → List ℕ → ℕ → ℕ → Trace) → starts.Law W → (n : ℕ) (s : List ℕ) (base at : ℕ) → W n s base at ≡ starts.walkFrom n s base at
+pub walk-only : (mode : Mode) (W : ℕ → List ℕ → ℕ → ℕ → Trace) → starts.Law mode W → (n : ℕ) (s : List ℕ) (base at : ℕ) → W n s base at ≡ starts.walkFrom mode n s base at
 walk-only = starts.walk-only
 
-pub walk-from-start : (n : ℕ) (s : List ℕ) (base : ℕ) → walk n s base ≡ starts.walkFrom n s base 0
+pub walk-from-start : (mode : Mode) (n : ℕ) (s : List ℕ) (base : ℕ) → walk mode n s base ≡ starts.walkFrom mode n s base 0
 walk-from-start = starts.walk-from-start
 
 -- the same case by case
-module _ (n : ℕ) (s : List ℕ) (base at : ℕ) where
-  pub walk-end : length s ≤ at → starts.walkFrom n s base at ≡ done
-  walk-end = starts.walk-end n s base at
+module _ (mode : Mode) (n : ℕ) (s : List ℕ) (base at : ℕ) where
+  pub walk-end : length s ≤ at → starts.walkFrom mode n s base at ≡ done
+  walk-end = starts.walk-end mode n s base at
 
-  pub walk-fault : {m : ℕ} → at < length s → headAt s at ≡ Fault m → starts.walkFrom n s base at ≡ fault m
-  walk-fault = starts.walk-fault n s base at
+  pub walk-fault : {m : ℕ} → at < length s → headAt mode s at ≡ Fault m → starts.walkFrom mode n s base at ≡ fault m
+  walk-fault = starts.walk-fault mode n s base at
 
-  pub walk-closed : {t first e : ℕ} → at < length s → headAt s at ≡ Closed t first e
-      → starts.walkFrom n s base at ≡ section t (base + first) (base + e) (afterPadding s e (starts.walkFrom n s base))
-  walk-closed = starts.walk-closed n s base at
+  pub walk-closed : {t first e : ℕ} → at < length s → headAt mode s at ≡ Closed t first e
+      → starts.walkFrom mode n s base at ≡ section t (base + first) (base + e) (afterPadding s e (starts.walkFrom mode n s base))
+  walk-closed = starts.walk-closed mode n s base at
 
-  pub walk-open : {t first f e : ℕ} → at < length s → headAt s at ≡ Open t first f e
-      → starts.walkFrom (suc n) s base at
-      ≡ section t (base + first) (base + e) (andThen (walk n (part f e s) (base + f)) (afterPadding s e (starts.walkFrom (suc n) s base)))
-  walk-open = starts.walk-open n s base at
+  pub walk-open : {t first f e : ℕ} → at < length s → headAt mode s at ≡ Open t first f e
+      → starts.walkFrom mode (suc n) s base at
+      ≡ section t (base + first) (base + e) (andThen (walk mode n (part f e s) (base + f)) (afterPadding s e (starts.walkFrom mode (suc n) s base)))
+  walk-open = starts.walk-open mode n s base at
 
   -- "a holder counts before its children", and they before all that follows it
-  pub holder-first : {t first f e : ℕ} → at < length s → headAt s at ≡ Open t first f e → firstFault (walk n (part f e s) (base + f)) ≡ none
-      → sections (starts.walkFrom (suc n) s base at)
+  pub holder-first : {t first f e : ℕ} → at < length s → headAt mode s at ≡ Open t first f e → firstFault (walk mode n (part f e s) (base + f)) ≡ none
+      → sections (starts.walkFrom mode (suc n) s base at)
       ≡ record { sectionType = t; first = base + first; end = base + e }
-      ∷ (sections (walk n (part f e s) (base + f)) ++ sections (afterPadding s e (starts.walkFrom (suc n) s base)))
-  holder-first = order.holder-first n s base at
+      ∷ (sections (walk mode n (part f e s) (base + f)) ++ sections (afterPadding s e (starts.walkFrom mode (suc n) s base)))
+  holder-first = order.holder-first mode n s base at
 
 -- "205 contents to be searched would lie on a ninth level"
-pub walk-205 : (s : List ℕ) (base at : ℕ) {t first f e : ℕ} → at < length s → headAt s at ≡ Open t first f e → starts.walkFrom 0 s base at ≡ fault 205
+pub walk-205 : (mode : Mode) (s : List ℕ) (base at : ℕ) {t first f e : ℕ} → at < length s → headAt mode s at ≡ Open t first f e → starts.walkFrom mode 0 s base at ≡ fault 205
 walk-205 = starts.walk-205
 
 -- "then 207 nonzero padding"; else the walk goes on at the next start
@@ -166,76 +212,134 @@ padding-cut = padding.zeros-past
 
 -- ---- searching
 
-module _ (s : List ℕ) (t instance : ℕ) where
-  -- "206 stream over 16,777,216 bytes"
-  pub search-206 : streamLimit < length s → searchOf s t instance ≡ refused 206
-  search-206 = shown.search-206 s t instance
+module _ (mode : Mode) (s : List ℕ) (t instance : ℕ) where
+  -- "206 stream over 16,777,216 bytes"; in PI mode "the stream limit becomes 64 MiB" (below)
+  pub search-206 : streamLimit mode < length s → searchOf mode s t instance ≡ refused 206
+  search-206 = shown.search-206 mode s t instance
 
   -- "the whole tree is tested before a search answers": its first fault is the answer
-  pub search-fault : {n : ℕ} → firstFault (streamWalk s) ≡ some n → searchOf s t instance ≡ refused n
-  search-fault = shown.search-fault s t instance
+  pub search-fault : {n : ℕ} → firstFault (streamWalk mode s) ≡ some n → searchOf mode s t instance ≡ refused n
+  search-fault = shown.search-fault mode s t instance
 
   -- on a well-formed stream an instance is found exactly when it is below the number of sections of its type on the walk; "14 section not there"
-  pub found-exactly : WellFormed s → (numberOf (searchOf s t instance) ≡ 0) ↔ (instance < countOf t s)
-  found-exactly = shown.found-exactly s t instance
+  pub found-exactly : WellFormed mode s → (numberOf (searchOf mode s t instance) ≡ 0) ↔ (instance < countOf mode t s)
+  found-exactly = shown.found-exactly mode s t instance
 
-  pub search-found : WellFormed s → instance < countOf t s → (f : ℕ) × (e : ℕ) × (searchOf s t instance ≡ success (f ∷ e ∷ []))
-  search-found = shown.search-found s t instance
+  pub search-found : WellFormed mode s → instance < countOf mode t s → (f : ℕ) × (e : ℕ) × (searchOf mode s t instance ≡ success (f ∷ e ∷ []))
+  search-found = shown.search-found mode s t instance
 
-  pub search-missing : WellFormed s → countOf t s ≤ instance → searchOf s t instance ≡ refused 14
-  search-missing = shown.search-missing s t instance
+  pub search-missing : WellFormed mode s → countOf mode t s ≤ instance → searchOf mode s t instance ≡ refused 14
+  search-missing = shown.search-missing mode s t instance
 
   -- the part that is shown lies inside the stream
-  pub part-inside : (f e : ℕ) → searchOf s t instance ≡ success (f ∷ e ∷ []) → (f ≤ e) × (e ≤ length s)
-  part-inside = shown.part-inside s t instance
+  pub part-inside : (f e : ℕ) → searchOf mode s t instance ≡ success (f ∷ e ∷ []) → (f ≤ e) × (e ≤ length s)
+  part-inside = shown.part-inside mode s t instance
 
   -- "contents are searched only for kind 0", "only if attribute bit 0 is clear": what lies in packed contents changes no answer
-  pub search-packed : (s′ : List ℕ) → length s ≡ length s′ → ((i : ℕ) → (unread.OnWalk unread.PackedContents 7 s 0 i → ⊥) → getD s i 0 ≡ getD s′ i 0)
-      → searchOf s t instance ≡ searchOf s′ t instance
-  search-packed s′ = unread.search-packed s s′ t instance
+  pub search-packed : (s′ : List ℕ) → length s ≡ length s′ → ((i : ℕ) → (unread.OnWalk mode (unread.PackedContents mode) 7 s 0 i → ⊥) → getD s i 0 ≡ getD s′ i 0)
+      → searchOf mode s t instance ≡ searchOf mode s′ t instance
+  search-packed s′ = unread.search-packed mode s s′ t instance
 
   -- nor does what lies in any section that is not opened, after its type's own header
-  pub search-unread : (s′ : List ℕ) → unread.SameBut 7 s s′ 0 → searchOf s t instance ≡ searchOf s′ t instance
-  search-unread s′ = unread.search-unread s s′ t instance
+  pub search-unread : (s′ : List ℕ) → unread.SameBut mode 7 s s′ 0 → searchOf mode s t instance ≡ searchOf mode s′ t instance
+  search-unread s′ = unread.search-unread mode s s′ t instance
+
+pub framework-limit : streamLimit Framework ≡ 16777216
+unfolding streamLimit
+framework-limit = refl
+
+pub pi-limit : streamLimit Pi ≡ 67108864
+unfolding streamLimit
+pi-limit = refl
+
+-- ---- the two modes
+
+-- "Framework files keep the old meaning": every walk is, and every search answers, as before request i; proofs/FrameworkMode.antt has the
+-- definitions of that time
+pub stream-walk-as-before : (s : List ℕ) → streamWalk Framework s ≡ framework.streamWalk₁ s
+stream-walk-as-before = framework.stream-walk-as-before
+
+pub search-as-before : (s : List ℕ) (t instance : ℕ) → searchOf Framework s t instance ≡ framework.searchOf₁ s t instance
+search-as-before = framework.search-as-before
+
+-- a stream within 16 MiB reads the same in both modes where the walk, in either of them, comes to no start with a size field of FF FF FF
+pub search-modes : (mode mode′ : Mode) (s : List ℕ) (t instance : ℕ) → length s ≤ 16777216 → modes.NoLongField mode 7 s 0
+    → searchOf mode s t instance ≡ searchOf mode′ s t instance
+search-modes = modes.search-modes
+
+-- as every stream in which no three bytes FF follow one another
+pub no-three-bytes : (mode : Mode) (n : ℕ) (s : List ℕ) (at : ℕ) → ((i : ℕ) → getD s i 0 < 256) → modes.NoThree s → modes.NoLongField mode n s at
+no-three-bytes = modes.no-three-bytes
+
+-- and with such a field it need not: a raw section of 8 bytes with a long header
+pub modes-differ : (searchOf Framework (0xFF ∷ 0xFF ∷ 0xFF ∷ 0x19 ∷ 8 ∷ 0 ∷ 0 ∷ 0 ∷ []) 0x19 0 ≡ refused 203)
+    × (searchOf Pi (0xFF ∷ 0xFF ∷ 0xFF ∷ 0x19 ∷ 8 ∷ 0 ∷ 0 ∷ 0 ∷ []) 0x19 0 ≡ success (8 ∷ 8 ∷ []))
+unfolding examples
+modes-differ = (refl, refl)
 
 -- ---- appending
 
 -- "a refusal carries no value but its number .. and no lent byte changes"
-pub refused-keeps : (buffer : List ℕ) (used t : ℕ) (body : List ℕ) → (numberOf (appendOf (length buffer) used t (length body)) ≡ 0 → ⊥)
-    → bufferAfter buffer used t body ≡ buffer
+pub refused-keeps : (mode : Mode) (buffer : List ℕ) (used t : ℕ) (body : List ℕ) → (numberOf (appendOf mode (length buffer) used t (length body)) ≡ 0 → ⊥)
+    → bufferAfter mode buffer used t body ≡ buffer
 refused-keeps = refusals.refused-keeps
 
+pub append-as-before : (room used t m : ℕ) → appendOf Framework room used t m ≡ framework.appendOf₁ room used t m
+append-as-before = framework.append-as-before
+
+pub buffer-as-before : (buffer : List ℕ) (used t : ℕ) (body : List ℕ) → bufferAfter Framework buffer used t body ≡ framework.bufferAfter₁ buffer used t body
+buffer-as-before = framework.buffer-as-before
+
+-- "appending writes one [a long header] exactly when the size with a short header would reach 16,777,215"
+pub append-long : (m : ℕ) → 16777215 ≤ 4 + m → leafHeader Pi m ≡ 8
+append-long = refusals.append-long
+
+pub append-short : (m : ℕ) → 4 + m < 16777215 → leafHeader Pi m ≡ 4
+append-short = refusals.append-short
+
+pub append-framework : (m : ℕ) → leafHeader Framework m ≡ 4
+append-framework = refusals.append-framework
+
+-- the bytes of a long one: FF FF FF, the type and the 32-bit size
+pub long-leaf-start : (t m : ℕ) → leafStart 8 t m ≡ 0xFF ∷ 0xFF ∷ 0xFF ∷ t ∷ leBytes 4 (8 + m)
+unfolding leafStart leBytes
+long-leaf-start t m = refl
+
+-- "in the new mode 206 at appending stands for the stream limit alone"
+pub pi-206 : (room used t m : ℕ) → usedAfter Pi used m ≤ 67108864 → appendOf Pi room used t m ≡ refused 206 → ⊥
+pi-206 = refusals.pi-206
+
 -- "a well-formed stream then reads as before with one section more": the used bytes are well formed before, and u is the new used count
-module _ (buffer : List ℕ) (used t : ℕ) (body : List ℕ) {u : ℕ} (answer : appendOf (length buffer) used t (length body) ≡ success (u ∷ []))
-    (well : WellFormed (take used buffer)) where
-  pub appended-walk : streamWalk (take u (bufferAfter buffer used t body)) ≡ andThen (streamWalk (take used buffer)) (section t (aligned used + 4) u done)
-  appended-walk = stream.appended-stream-walk buffer used t body answer well
+module _ (mode : Mode) (buffer : List ℕ) (used t : ℕ) (body : List ℕ) {u : ℕ} (answer : appendOf mode (length buffer) used t (length body) ≡ success (u ∷ []))
+    (well : WellFormed mode (take used buffer)) where
+  pub appended-walk : streamWalk mode (take u (bufferAfter mode buffer used t body)) ≡ andThen (streamWalk mode (take used buffer)) (section t (aligned used + leafHeader mode (length body)) u done)
+  appended-walk = stream.appended-stream-walk mode buffer used t body answer well
 
-  pub appended-well : WellFormed (take u (bufferAfter buffer used t body))
-  appended-well = stream.appended-well buffer used t body answer well
+  pub appended-well : WellFormed mode (take u (bufferAfter mode buffer used t body))
+  appended-well = stream.appended-well mode buffer used t body answer well
 
-  pub appended-sections : sections (streamWalk (take u (bufferAfter buffer used t body)))
-      ≡ sections (streamWalk (take used buffer)) ++ (record { sectionType = t; first = aligned used + 4; end = u } ∷ [])
-  appended-sections = stream.appended-sections buffer used t body answer well
+  pub appended-sections : sections (streamWalk mode (take u (bufferAfter mode buffer used t body)))
+      ≡ sections (streamWalk mode (take used buffer)) ++ (record { sectionType = t; first = aligned used + leafHeader mode (length body); end = u } ∷ [])
+  appended-sections = stream.appended-sections mode buffer used t body answer well
 
   -- the new section shows the body
-  pub appended-body : part (aligned used + 4) u (take u (bufferAfter buffer used t body)) ≡ body
-  appended-body = stream.appended-body buffer used t body answer well
+  pub appended-body : part (aligned used + leafHeader mode (length body)) u (take u (bufferAfter mode buffer used t body)) ≡ body
+  appended-body = stream.appended-body mode buffer used t body answer well
 
   -- a search that showed a part shows the same one, with the same bytes in it
-  pub search-kept : (t′ i : ℕ) {f e : ℕ} → searchOf (take used buffer) t′ i ≡ success (f ∷ e ∷ [])
-      → searchOf (take u (bufferAfter buffer used t body)) t′ i ≡ success (f ∷ e ∷ [])
-  search-kept = stream.search-kept buffer used t body answer well
+  pub search-kept : (t′ i : ℕ) {f e : ℕ} → searchOf mode (take used buffer) t′ i ≡ success (f ∷ e ∷ [])
+      → searchOf mode (take u (bufferAfter mode buffer used t body)) t′ i ≡ success (f ∷ e ∷ [])
+  search-kept = stream.search-kept mode buffer used t body answer well
 
-  pub kept-bytes : (t′ i : ℕ) {f e : ℕ} → searchOf (take used buffer) t′ i ≡ success (f ∷ e ∷ [])
-      → part f e (take u (bufferAfter buffer used t body)) ≡ part f e (take used buffer)
-  kept-bytes = stream.kept-bytes buffer used t body answer well
+  pub kept-bytes : (t′ i : ℕ) {f e : ℕ} → searchOf mode (take used buffer) t′ i ≡ success (f ∷ e ∷ [])
+      → part f e (take u (bufferAfter mode buffer used t body)) ≡ part f e (take used buffer)
+  kept-bytes = stream.kept-bytes mode buffer used t body answer well
 
   -- the new type at the instance equal to its earlier number shows the new section
-  pub search-new : searchOf (take u (bufferAfter buffer used t body)) t (countOf t (take used buffer)) ≡ success ((aligned used + 4) ∷ u ∷ [])
-  search-new = stream.search-new buffer used t body answer well
+  pub search-new : searchOf mode (take u (bufferAfter mode buffer used t body)) t (countOf mode t (take used buffer)) ≡ success ((aligned used + leafHeader mode (length body)) ∷ u ∷ [])
+  search-new = stream.search-new mode buffer used t body answer well
 
   -- every other search that answered 14 still does
-  pub search-14 : (t′ i : ℕ) → searchOf (take used buffer) t′ i ≡ refused 14 → ((t′ ≡ t) × (i ≡ countOf t (take used buffer)) → ⊥)
-      → searchOf (take u (bufferAfter buffer used t body)) t′ i ≡ refused 14
-  search-14 = stream.search-14 buffer used t body answer well
+  pub search-14 : (t′ i : ℕ) → searchOf mode (take used buffer) t′ i ≡ refused 14 → ((t′ ≡ t) × (i ≡ countOf mode t (take used buffer)) → ⊥)
+      → searchOf mode (take u (bufferAfter mode buffer used t body)) t′ i ≡ refused 14
+  search-14 = stream.search-14 mode buffer used t body answer well

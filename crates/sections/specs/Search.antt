@@ -1,4 +1,4 @@
--- Searching a section stream (01, "Sections"): "the whole tree is tested before a search answers", then the instance of the type
+-- Searching a section stream (01, "Sections"; 02, i): "the whole tree is tested before a search answers", then the instance of the type
 -- asked for is taken from the sections of the walk.
 use Prim.Native.Nat.{ℕ}
 use mathlib.Core.Path.{_≡_}
@@ -10,10 +10,11 @@ use lib.ListN.{length, getElem?}
 use Rattle.common.specs.Answers.{Answer, refused, success}
 use Rattle.common.specs.Refusals.{unlessRefused}
 use Rattle.sections.specs.Walk.{Trace, done, fault, section, streamWalk}
+use Rattle.sections.specs.declared.header.Mode.{Mode}
 use Rattle.sections.specs.declared.search.Found.{Found}
 use Rattle.sections.specs.declared.search.Found.the-variants.{Part, Refused}
 
--- a section of the walk: its type, and the first byte and the end, in the lent stream, of what follows its first 4 bytes
+-- a section of the walk: its type, and the first byte and the end, in the lent stream, of what follows its header
 pub record Section : Type 0 where
   pub sectionType : ℕ
   pub first : ℕ
@@ -36,17 +37,17 @@ unfoldable pub ofType : (sectionType : ℕ) → List Section → List Section
 ofType t [] = []
 ofType t (x ∷ l) = cond (eqb (x .sectionType) t) (x ∷ ofType t l) (ofType t l)
 
--- "the answer shows, by first byte and end, the part of the lent stream after the section's first 4 bytes, to its end"; or 14,
--- "section not there"
+-- "the answer shows, by first byte and end, the part of the lent stream after the section's first 4 bytes, to its end", in PI mode
+-- "what follows its own header"; or 14, "section not there"
 abbrev pub partAnswer : Option Section → Answer
 partAnswer none = refused 14
 partAnswer (some x) = success (x .first ∷ x .end ∷ [])
 
 -- the search for the section of a type that has `instance` sections of that type before it on the walk: the first fault of the
 -- whole tree, or the part
-unfoldable pub searchOf : List ℕ → (sectionType instance : ℕ) → Answer
-searchOf s sectionType instance =
-    unlessRefused refused (firstFault (streamWalk s)) (partAnswer (getElem? (ofType sectionType (sections (streamWalk s))) instance))
+unfoldable pub searchOf : Mode → List ℕ → (sectionType instance : ℕ) → Answer
+searchOf mode s sectionType instance =
+    unlessRefused refused (firstFault (streamWalk mode s)) (partAnswer (getElem? (ofType sectionType (sections (streamWalk mode s))) instance))
 
 -- what the code's `Found` answers: the part's first byte and end, or the refusal
 abbrev pub foundAnswer : Found → Answer
@@ -54,9 +55,9 @@ foundAnswer (Part first e) = success (first ∷ e ∷ [])
 foundAnswer (Refused n) = refused n
 
 -- a well-formed stream: its walk meets no fault
-abbrev pub WellFormed : List ℕ → Type 0
-WellFormed s = firstFault (streamWalk s) ≡ none
+abbrev pub WellFormed : Mode → List ℕ → Type 0
+WellFormed mode s = firstFault (streamWalk mode s) ≡ none
 
 -- the number of sections of a type on the walk
-abbrev pub countOf : (sectionType : ℕ) → List ℕ → ℕ
-countOf sectionType s = length (ofType sectionType (sections (streamWalk s)))
+abbrev pub countOf : Mode → (sectionType : ℕ) → List ℕ → ℕ
+countOf mode sectionType s = length (ofType sectionType (sections (streamWalk mode s)))

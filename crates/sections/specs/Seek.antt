@@ -2,12 +2,16 @@
 -- `search` promises.
 use Prim.Native.Nat.{ℕ, _-_}
 use mathlib.Core.Bool.{cond}
-use mathlib.Core.List.{[], _∷_}
+use mathlib.Core.List.{List}
 use lib.Dec.{eqb}
-use Rattle.common.specs.Answers.{Answer, refused, success}
+use lib.ListN.{getD}
 use Rattle.sections.specs.Walk.{Trace, done, fault, section}
-use Rattle.sections.specs.declared.walk.Seek.{Seek}
-use Rattle.sections.specs.declared.walk.Seek.the-variants.{Refused, Left, Met}
+
+-- the first fault; or how many sections of the type wanted are still to be passed; or the part of the one wanted
+pub data Seek : Type 0 where
+  Refused : ℕ → Seek
+  Left : ℕ → Seek
+  Met : (first end : ℕ) → Seek
 
 -- at a section: one of the type wanted is the one wanted, where none is left before it
 unfoldable pub visited : (want : ℕ) → Seek → (sectionType first end : ℕ) → Seek
@@ -27,8 +31,7 @@ run want a done = a
 run want a (fault n) = halted n a
 run want a (section t f e rest) = run want (visited want a t f e) rest
 
--- the search's answer at the end of the walk
-unfoldable pub seekAnswer : Seek → Answer
-seekAnswer (Refused n) = refused n
-seekAnswer (Left i) = refused 14
-seekAnswer (Met f e) = success (f ∷ e ∷ [])
+-- how the code holds it: the fault, or 0; and three words, the sections still to be passed and, once it is met, the first byte and the
+-- end of the part. Every section has an end that is not 0
+unfoldable pub carried : (fault : ℕ) → List ℕ → Seek
+carried n words = cond (eqb n 0) (cond (eqb (getD words 2 0) 0) (Left (getD words 0 0)) (Met (getD words 1 0) (getD words 2 0))) (Refused n)

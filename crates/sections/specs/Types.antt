@@ -1,4 +1,5 @@
--- Section types (002, "Architectural Section Types"; 01, "Sections"): what a type byte stands for, its class and its least size.
+-- Section types (002, "Architectural Section Types"; 01, "Sections"): what a type byte stands for, its class and its least size with a
+-- header of 4 bytes.
 -- A section's type byte is called `sectionType` here and `section_type` in the code, since `type` is a word of the language.
 use Prim.Native.Nat.{ℕ}
 use mathlib.Core.Bool.{cond}
@@ -60,7 +61,7 @@ types =
     ∷ typeRow 0x1B PeiDepex PlainLeaf commonHeader
     ∷ []
 
--- a plain leaf, with no fields after the first 4 bytes
+-- a plain leaf, with no fields of its own
 abbrev pub plainLeaf : TypeName → TypeInfo
 plainLeaf n = typeIs n PlainLeaf commonHeader
 

@@ -1,15 +1,16 @@
--- The walk through a section stream and its holders (01, "Sections"): depth first, left to right, through at most eight levels.
+-- The walk through a section stream and its holders (01, "Sections"; 02, i): depth first, left to right, through at most eight levels.
 use Prim.Native.Nat.{ℕ, zero, suc, _+_, _-_, _*_, _/_}
 use mathlib.Core.Bool.{Bool, true, cond, _&&_}
 use mathlib.Core.List.{List}
 use lib.Dec.{eqb, ltb}
 use lib.ListN.{length, getD, take, drop}
-use Rattle.sections.specs.Header.{headAt}
+use Rattle.sections.specs.Header.{isPi, headAt}
+use Rattle.sections.specs.declared.header.Mode.{Mode}
 use Rattle.sections.specs.declared.header.Head.{Head}
 use Rattle.sections.specs.declared.header.Head.the-variants.{Fault, Closed, Open}
 
--- what the walk meets, in walk order: sections, each with its type and the first byte and the end of what follows its first
--- 4 bytes, counted in the outer stream; at the end nothing more, or the first fault
+-- what the walk meets, in walk order: sections, each with its type and the first byte and the end of what follows its header,
+-- counted in the outer stream; at the end nothing more, or the first fault
 pub data Trace : Type 0 where
   done : Trace
   fault : ℕ → Trace
@@ -53,22 +54,22 @@ meet below inner s base (Open t first from e) rest =
 
 -- the sections of one stream from byte `at` on, at most `fuel` of them; a stream of n bytes has at most n, and
 -- proofs/walk/Starts.antt has the laws without this number
-unfoldable pub siblings : (below : ℕ) → (inner : List ℕ → ℕ → Trace) → (fuel : ℕ) → List ℕ → (base at : ℕ) → Trace
-siblings below inner zero s base at = done
-siblings below inner (suc fuel) s base at =
-    let here = meet below inner s base (headAt s at) (siblings below inner fuel s base) in
+unfoldable pub siblings : Mode → (below : ℕ) → (inner : List ℕ → ℕ → Trace) → (fuel : ℕ) → List ℕ → (base at : ℕ) → Trace
+siblings mode below inner zero s base at = done
+siblings mode below inner (suc fuel) s base at =
+    let here = meet below inner s base (headAt mode s at) (siblings mode below inner fuel s base) in
     cond (ltb at (length s)) here done
 
 -- the walk through a stream that starts at byte `base` of the outer one, with `below` levels left below it; on the last level
 -- nothing is opened
-unfoldable pub walk : (below : ℕ) → List ℕ → (base : ℕ) → Trace
-walk zero s base = siblings 0 (λ l b. done) (length s) s base 0
-walk (suc below) s base = siblings (suc below) (walk below) (length s) s base 0
+unfoldable pub walk : Mode → (below : ℕ) → List ℕ → (base : ℕ) → Trace
+walk mode zero s base = siblings mode 0 (λ l b. done) (length s) s base 0
+walk mode (suc below) s base = siblings mode (suc below) (walk mode below) (length s) s base 0
 
--- "206: stream over 16,777,216 bytes"
-abbrev pub streamLimit : ℕ
-streamLimit = 16777216
+-- "206: stream over 16,777,216 bytes"; in PI mode "the stream limit becomes 64 MiB"
+unfoldable pub streamLimit : Mode → ℕ
+streamLimit mode = cond (isPi mode) 67108864 16777216
 
 -- the walk through a whole stream: eight levels, the outer stream the first
-unfoldable pub streamWalk : List ℕ → Trace
-streamWalk s = let whole = walk 7 s 0 in cond (ltb streamLimit (length s)) (fault 206) whole
+unfoldable pub streamWalk : Mode → List ℕ → Trace
+streamWalk mode s = let whole = walk mode 7 s 0 in cond (ltb (streamLimit mode) (length s)) (fault 206) whole

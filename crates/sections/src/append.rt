@@ -1,19 +1,25 @@
 // Appending a leaf to a section stream.
 ghost use mathlib.Core.Path.{_≡_};
-ghost use Prim.Native.Nat.{_≤_, _<_, _^_};
+ghost use Prim.Native.Nat.{_+_, _≤_};
+ghost use mathlib.Core.Bool.{not, _&&_};
+ghost use mathlib.Core.Logic.{_⊎_};
+ghost use lib.Dec.{ltb};
 ghost use lib.ListN.{length};
 ghost use lib.Seq.{sets};
-ghost use Rattle.sections.specs.Append.{appendedAnswer, appendOf, bufferAfter, added, usedAfter};
+ghost use Rattle.sections.specs.Append.{appendedAnswer, appendOf, bufferAfter, addedWith, leafHeader, leafStart};
+ghost use Rattle.sections.specs.Header.{isPi, largestField};
+ghost use Rattle.sections.specs.Walk.{aligned as alignedOf};
+use crate::header::EXTENDED_SIZE;
+use crate::header::LARGEST_FIELD;
+use crate::header::LONG_HEADER;
+use crate::header::Mode;
 use crate::header::TYPE;
-use crate::search::STREAM_LIMIT;
+use crate::search::stream_limit;
 use crate::types::COMMON_HEADER;
 use crate::types::SECTION_COMPRESSION;
 use crate::types::SECTION_GUID_DEFINED;
 use crate::types::type_info;
 use crate::walk::aligned;
-
-// The largest size that a section header holds.
-const SIZE_LIMIT: usize = 16_777_215;
 
 // What appending answers: the new used count; or document 01's refusal number, 2, 202, 206 or 5.
 pub enum Appended {
@@ -24,9 +30,9 @@ pub enum Appended {
 // Appends a leaf after the `used` bytes of a stream in a buffer: padding, header and body. Every
 // other byte of the buffer stays, and on a refusal all of them. The stream itself is not tested.
 // Linear in the body.
-pub fn append(buffer: &mut [u8], used: usize, section_type: u8, body: &[u8]) -> Appended
-    ensures { λ r. ⌜ (appendedAnswer r ≡ appendOf (length (now (buffer .entry))) used «section_type» (length (now (body .entry))))
-        × (now (buffer .exit) ≡ bufferAfter (now (buffer .entry)) used «section_type» (now (body .entry))) ⌝ }
+pub fn append(mode: Mode, buffer: &mut [u8], used: usize, section_type: u8, body: &[u8]) -> Appended
+    ensures { λ r. ⌜ (appendedAnswer r ≡ appendOf mode (length (now (buffer .entry))) used «section_type» (length (now (body .entry))))
+        × (now (buffer .exit) ≡ bufferAfter mode (now (buffer .entry)) used «section_type» (now (body .entry))) ⌝ }
 {
     if section_type == SECTION_COMPRESSION {
         return Appended::Refused(2);
@@ -43,33 +49,81 @@ pub fn append(buffer: &mut [u8], used: usize, section_type: u8, body: &[u8]) -> 
     if size < least {
         return Appended::Refused(202);
     }
-    if SIZE_LIMIT < size {
+    if oversized(mode, size) {
         return Appended::Refused(206);
     }
-    let end = aligned(used) + size;
-    if STREAM_LIMIT < end {
+    let limit = stream_limit(mode);
+    // A body over the limit is refused first, so that the sum fits.
+    if limit < size {
+        return Appended::Refused(206);
+    }
+    let header = leaf_header(mode, body.len());
+    let end = aligned(used) + (header + body.len());
+    if limit < end {
         return Appended::Refused(206);
     }
     if buffer.len() < end {
         return Appended::Refused(5);
     }
-    store_leaf(buffer, used, section_type, body);
+    store_leaf(buffer, used, section_type, header, body);
     Appended::Used(end)
+}
+
+// Whether in Framework mode no header holds the size of a leaf, `size` with a short one. In PI mode a
+// long one holds every size up to the stream limit, which is tested after this.
+fn oversized(mode: Mode, size: usize) -> bool
+    ensures { λ r. ⌜ r ≡ (not (isPi mode) && ltb largestField size) ⌝ }
+{
+    match mode {
+        Mode::Framework => LARGEST_FIELD < size,
+        Mode::Pi => false,
+    }
+}
+
+// The length of the header of a leaf with a body of m bytes.
+fn leaf_header(mode: Mode, m: usize) -> usize
+    ensures { λ r. ⌜ r ≡ leafHeader mode m ⌝ }
+{
+    match mode {
+        Mode::Framework => COMMON_HEADER,
+        Mode::Pi => {
+            if m < LARGEST_FIELD - COMMON_HEADER {
+                return COMMON_HEADER;
+            }
+            LONG_HEADER
+        }
+    }
 }
 
 // Stores padding, header and body from byte `used` on. The body goes by the kit's plain loop over two
 // slices, which in an archive is a loop of 32-byte moves behind a test of overlap; `numbers::store`,
 // at any place, tests a bound at every byte.
-fn store_leaf(buffer: &mut [u8], used: usize, section_type: u8, body: &[u8])
-    requires { ⌜ (usedAfter used (length (now body)) ≤ length (now buffer)) × (usedAfter used (length (now body)) < 2 ^ 63) ⌝ }
-    ensures { λ _. ⌜ now (buffer .exit) ≡ sets (now (buffer .entry)) used (added used «section_type» (now (body .entry))) ⌝ }
+fn store_leaf(buffer: &mut [u8], used: usize, section_type: u8, header: usize, body: &[u8])
+    requires { ⌜ ((header ≡ 4) ⊎ (header ≡ 8)) × (alignedOf used + (header + length (now body)) ≤ length (now buffer)) ⌝ }
+    ensures { λ _. ⌜ now (buffer .exit) ≡ sets (now (buffer .entry)) used (addedWith header used «section_type» (now (body .entry))) ⌝ }
 {
     let start = aligned(used);
-    let size = COMMON_HEADER + body.len();
     numbers::store(buffer, used, start - used, 0);
-    numbers::store(buffer, start, 3, size as u64);
-    numbers::store(buffer, start + TYPE, 1, section_type as u64);
-    let from = start + COMMON_HEADER;
-    let end = start + size;
+    store_header(buffer, start, section_type, header, body.len());
+    let from = start + header;
+    let end = from + body.len();
     bytes::copy(body, &mut buffer[from..end]);
+}
+
+// Stores the header of a leaf with a body of m bytes.
+fn store_header(buffer: &mut [u8], start: usize, section_type: u8, header: usize, m: usize)
+    requires { ⌜ (4 ≤ header) × (start + (header + m) ≤ length (now buffer)) ⌝ }
+    ensures { λ _. ⌜ now (buffer .exit) ≡ sets (now (buffer .entry)) start (leafStart header «section_type» m) ⌝ }
+{
+    let size = header + m;
+    if header == LONG_HEADER {
+        numbers::store(buffer, start, 3, LARGEST_FIELD as u64);
+        numbers::store(buffer, start + TYPE, 1, section_type as u64);
+        numbers::store(buffer, start + EXTENDED_SIZE, 4, size as u64);
+        return;
+    }
+    buffer[start] = (size % 256) as u8;
+    buffer[start + 1] = (size / 256 % 256) as u8;
+    buffer[start + 2] = (size / 65_536 % 256) as u8;
+    buffer[start + TYPE] = section_type;
 }

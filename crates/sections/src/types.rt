@@ -65,11 +65,12 @@ pub enum Class {
 pub struct TypeInfo {
     pub name: TypeName,
     pub class: Class,
-    // The least size of a section of the type: its own header.
+    // The least size of a section of the type with a header of 4 bytes: that header and the type's fields.
     pub least: usize,
 }
 
-// The type that a type byte stands for, its class and its least size. An unknown number is a plain leaf.
+// The type that a type byte stands for, its class and its least size with a header of 4 bytes. An
+// unknown number is a plain leaf.
 pub fn type_info(section_type: u8) -> TypeInfo
     ensures { λ r. ⌜ r ≡ typeInfo «section_type» ⌝ }
 {

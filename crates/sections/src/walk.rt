@@ -3,41 +3,50 @@ ghost use mathlib.Core.Path.{_≡_};
 ghost use Prim.Native.Nat.{_+_, _<_, _^_};
 ghost use lib.ListN.{length};
 ghost use Rattle.sections.specs.Walk.{aligned as alignedOf, walk, zeros};
-ghost use Rattle.sections.specs.Seek.{visited, halted, run};
+ghost use Rattle.sections.specs.Seek.{visited, run, carried};
 use crate::header::Head;
+use crate::header::Mode;
 use crate::header::read_head;
 
-// What the walk carries along: the first fault; or how many sections of the type wanted are still
-// to be passed; or the part of the one wanted.
-pub(crate) enum Seek {
-    Refused(u16),
-    Left(u64),
-    Met(usize, usize),
-}
+// The words of what the walk carries along: how many sections of the type wanted are still to be
+// passed; and the first byte and the end of the part of the one wanted, which are 0 until it is met.
+pub(crate) const LEFT: usize = 0;
 
-// Walks a stream that starts at byte `base` of the outer one, with `below` levels left below it.
-// One pass: each section is read once, and the calls are as deep as the levels.
-pub(crate) fn walk_stream(s: &[u8], base: usize, below: u64, want: u8, start: Seek) -> Seek
-    requires { ⌜ base + length (now s) < 2 ^ 63 ⌝ }
-    ensures { λ r. ⌜ r ≡ run want start (walk below (now (s .entry)) base) ⌝ }
+pub(crate) const FIRST: usize = 1;
+
+pub(crate) const END: usize = 2;
+
+// Walks a stream that starts at byte `base` of the outer one, with `below` levels left below it, and
+// answers the first fault, or 0. What it carries along is lent to it (docs/DECISIONS.md, 69). One pass:
+// each section is read once, and the calls are as deep as the levels.
+pub(crate) fn walk_stream(
+    mode: Mode,
+    s: &[u8],
+    base: usize,
+    below: u64,
+    want: u8,
+    seek: &mut [u64; 3],
+) -> u16
+    requires { ⌜ (base + length (now s) < 2 ^ 63) × (length (now seek) ≡ 3) ⌝ }
+    ensures { λ r. ⌜ (length (now (seek .exit)) ≡ 3)
+        × (carried r (now (seek .exit)) ≡ run want (carried 0 (now (seek .entry))) (walk mode below (now (s .entry)) base)) ⌝ }
 {
-    let mut seek = start;
     let mut at = 0;
     while at < s.len() {
-        let head = read_head(s, at);
+        let head = read_head(mode, s, at);
         match head {
             Head::Fault(n) => {
-                return halt(n, seek);
+                return n;
             }
             Head::Closed {
                 section_type,
                 first,
                 end,
             } => {
-                seek = visit(want, seek, section_type, base + first, base + end);
+                visit(want, section_type, base + first, base + end, seek);
                 let next = aligned(end);
                 if !zero_bytes(s, end, next - end) {
-                    return halt(207, seek);
+                    return 207;
                 }
                 at = next;
             }
@@ -48,23 +57,22 @@ pub(crate) fn walk_stream(s: &[u8], base: usize, below: u64, want: u8, start: Se
                 end,
             } => {
                 if below == 0 {
-                    return halt(205, seek);
+                    return 205;
                 }
-                let met = visit(want, seek, section_type, base + first, base + end);
-                let inner = walk_stream(&s[from..end], base + from, below - 1, want, met);
-                if let Seek::Refused(n) = inner {
-                    return Seek::Refused(n);
+                visit(want, section_type, base + first, base + end, seek);
+                let inner = walk_stream(mode, &s[from..end], base + from, below - 1, want, seek);
+                if inner != 0 {
+                    return inner;
                 }
-                seek = inner;
                 let next = aligned(end);
                 if !zero_bytes(s, end, next - end) {
-                    return halt(207, seek);
+                    return 207;
                 }
                 at = next;
             }
         }
     }
-    seek
+    0
 }
 
 // The first multiple of 4 from n on.
@@ -85,7 +93,7 @@ fn zero_bytes(s: &[u8], at: usize, n: usize) -> bool
         if s.len() <= at + i {
             return true;
         }
-        if numbers::byte_at(s, at + i) != 0 {
+        if s[at + i] != 0 {
             return false;
         }
         i += 1;
@@ -93,33 +101,23 @@ fn zero_bytes(s: &[u8], at: usize, n: usize) -> bool
     true
 }
 
-// After a section of a type whose part is from `first` to `end`.
-fn visit(want: u8, seek: Seek, section_type: u8, first: usize, end: usize) -> Seek
-    ensures { λ r. ⌜ r ≡ visited want seek «section_type» first end ⌝ }
+// At a section of a type whose part is from `first` to `end`.
+fn visit(want: u8, section_type: u8, first: usize, end: usize, seek: &mut [u64; 3])
+    requires { ⌜ (0 < end) × (length (now seek) ≡ 3) ⌝ }
+    ensures { λ _. ⌜ (length (now (seek .exit)) ≡ 3)
+        × (carried 0 (now (seek .exit)) ≡ visited want (carried 0 (now (seek .entry))) «section_type» first end) ⌝ }
 {
-    match seek {
-        Seek::Left(left) => {
-            if section_type != want {
-                return seek;
-            }
-            if left == 0 {
-                return Seek::Met(first, end);
-            }
-            let rest = left - 1;
-            Seek::Left(rest)
-        }
-        Seek::Refused(_) => seek,
-        Seek::Met(_, _) => seek,
+    if section_type != want {
+        return;
     }
-}
-
-// After a fault: the first one stays.
-fn halt(n: u16, seek: Seek) -> Seek
-    ensures { λ r. ⌜ r ≡ halted n seek ⌝ }
-{
-    match seek {
-        Seek::Refused(_) => seek,
-        Seek::Left(_) => Seek::Refused(n),
-        Seek::Met(_, _) => Seek::Refused(n),
+    if seek[END] != 0 {
+        return;
+    }
+    let left = seek[LEFT];
+    if left == 0 {
+        seek[FIRST] = first as u64;
+        seek[END] = end as u64;
+    } else {
+        seek[LEFT] = left - 1;
     }
 }

@@ -14,14 +14,16 @@ use Rattle.volume.specs.BlockMap.{blocks, bytes, hasZero, allZero, sizeFault}
 use Rattle.block_service.specs.Blocks.{place, placeFrom, startOf, lengthOf, blockAt}
 use Rattle.block_service.specs.Erase.{endOfList, goodList, names, reaches, eraseChange}
 use Rattle.volume.specs.Header.{openVolume, opened, opens, stateAt, wordsAt, wordSum, runningSumsFrom, runningSums, openRefusals, headerLengthFault, mapFault}
-use Rattle.block_service.specs.Service.{refusals, lentRefusals, moveAnswer, effect, decide, withAttributes, withProtected, perform, bufferOf, Result, Call, setAttributes, read, write, eraseBlocks, step}
+use Rattle.block_service.specs.Service.{refusals, lentRefusals, moveAnswer, effect, decide, withAttributes, withProtected, perform, bufferOf, step}
+use Rattle.block_service.specs.Service.{Result, Call, setAttributes, read, write, eraseBlocks}
 use Rattle.block_service.specs.Settings.{statusBits, changesFixed, raises, clears, breaksLock, changesLocked, lacksCapability, settingRefusals}
 use Rattle.volume.specs.ExtendedHeader.{extOffset, extFault}
 use Rattle.volume.specs.State.{mapOf, stateOf, stateWith, zeroState, unlawful}
 use Rattle.sections.specs.Types.{infoAmong, typeInfo}
-use Rattle.sections.specs.Header.{headAt, headFaults, sectionAt, packed, contentsAt, wrongContents}
-use Rattle.sections.specs.Walk.{streamWalk, walk, siblings, meet, afterPadding, zeros, andThen}
+use Rattle.sections.specs.Header.{isLong, headerLength, sizeAt, sizeFaults, headFaults, headAt, sectionOf, packed, contentsAt, wrongContents}
+use Rattle.sections.specs.Walk.{streamLimit, streamWalk, walk, siblings, meet, afterPadding, zeros, andThen}
 use Rattle.sections.specs.Search.{searchOf, sections, firstFault, ofType}
+use Rattle.sections.specs.declared.header.Mode.the-variants.{Framework, Pi}
 use Rattle.listing.specs.Decimal.{decimal, digits, places, placesFrom}
 use Rattle.listing.specs.Listing.{field, line, linesOf, listing, mapLines}
 use Rattle.table.specs.SampleA.{headerA, sampleA, sumsA, linesA}
@@ -79,8 +81,11 @@ pub record Table : Type 0 where
   -- settings 0x0EBF: 2
   pub P12 : Answers (onA (setAttributes 0x0EBF)) 2 []
   -- raw instance 1 is empty, instance 2 gives 14
-  pub P13 : searchOf stream 0x19 1 ≡ success (12 ∷ 12 ∷ [])
-  pub P13-none : searchOf stream 0x19 2 ≡ refused 14
+  pub P13 : searchOf Framework stream 0x19 1 ≡ success (12 ∷ 12 ∷ [])
+  pub P13-none : searchOf Framework stream 0x19 2 ≡ refused 14
+  -- the same in PI mode (02, i)
+  pub P13-pi : searchOf Pi stream 0x19 1 ≡ success (12 ∷ 12 ∷ [])
+  pub P13-pi-none : searchOf Pi stream 0x19 2 ≡ refused 14
 
 -- everything that the rows compute with: opening, the calls, and sections
 unfoldable pub opening : Unit {0}
@@ -100,7 +105,7 @@ unfolding refusals lentRefusals moveAnswer effect decide withAttributes withProt
 calling = tt
 
 searching : Unit {0}
-unfolding infoAmong typeInfo headAt headFaults sectionAt packed contentsAt wrongContents streamWalk walk siblings meet afterPadding zeros andThen
+unfolding infoAmong typeInfo headAt headFaults sizeFaults isLong headerLength sizeAt sectionOf packed contentsAt wrongContents streamLimit streamWalk walk siblings meet afterPadding zeros andThen
 searching = tt
 
 pub table : Table
@@ -125,6 +130,8 @@ table =
       P12 = (refl, refl);
       P13 = refl;
       P13-none = refl;
+      P13-pi = refl;
+      P13-pi-none = refl;
     }
 
 -- "for A prints": the listing of sample A's bytes, text by text

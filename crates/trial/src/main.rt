@@ -22,7 +22,7 @@ use crate::streams::search_case;
 
 // The most bytes of a script. tests/limits builds a program with more, and with a longer VOLUME and ROOM in headers.rt and
 // streams.rt.
-const SCRIPT: usize = 524288;
+const SCRIPT: usize = 655360;
 
 fn main() {
     let mut input = [0u8; SCRIPT];

@@ -13,6 +13,7 @@ use crate::script::prepare;
 use numbers::byte_at;
 use sections::append::Appended;
 use sections::append::append;
+use sections::header::Mode;
 use sections::search::Found;
 use sections::search::search;
 use std::num::wrapping_sub_usize;
@@ -20,18 +21,34 @@ use std::num::wrapping_sub_usize;
 // The most bytes of a section buffer.
 const ROOM: usize = 512;
 
-// Searching: the stream, the type, the instance.
+// Searching: the stream, the type, the instance, and in PI mode the mode.
 pub(crate) fn search_case(case: &[u8]) {
-    begin(case, b"search");
-    search_fields(item(case, 2), byte_at(item(case, 3), 0), number(case, 4));
+    let mode = number(case, 5);
+    begin(case, called(mode, b"search", b"search pi"));
+    search_fields(
+        mode,
+        item(case, 2),
+        byte_at(item(case, 3), 0),
+        number(case, 4),
+    );
     end();
 }
 
+// Mode 0, which a case without one has, is Framework, and any other PI.
+fn mode_of(mode: u64) -> Mode {
+    if mode == 0 { Mode::Framework } else { Mode::Pi }
+}
+
+// The call's word by the mode.
+fn called<'a>(mode: u64, framework: &'a [u8], pi: &'a [u8]) -> &'a [u8] {
+    if mode == 0 { framework } else { pi }
+}
+
 // The type and instance, the answer, the part's first bytes.
-fn search_fields(stream: &[u8], section_type: u8, instance: u64) {
+fn search_fields(mode: u64, stream: &[u8], section_type: u8, instance: u64) {
     field(section_type as u64);
     field(instance);
-    let answer = search(stream, section_type, instance);
+    let answer = search(mode_of(mode), stream, section_type, instance);
     match answer {
         Found::Part { first, end } => {
             field(0);
@@ -44,7 +61,8 @@ fn search_fields(stream: &[u8], section_type: u8, instance: u64) {
 }
 
 // Appending: the buffer's length, the used count, the type, the body, the stream and the pattern that
-// the buffer holds before, and the instance that is then searched for.
+// the buffer holds before, the instance that is then searched for, in PI mode the mode, and, where it
+// is not all of them, how many bytes of the arrays the case works on.
 pub(crate) fn append_case(case: &[u8]) {
     let mut before = [0u8; ROOM];
     let mut buffer = [0u8; ROOM];
@@ -56,24 +74,45 @@ fn append_arrays(case: &[u8], before: &mut [u8; ROOM], buffer: &mut [u8; ROOM]) 
 }
 
 fn append_slices(case: &[u8], before: &mut [u8], buffer: &mut [u8]) {
+    let n = least(working(number(case, 10)), before.len());
+    let m = least(n, buffer.len());
+    append_parts(case, &mut before[..n], &mut buffer[..m]);
+}
+
+fn working(n: u64) -> usize {
+    if n == 0 { ROOM } else { n as usize }
+}
+
+fn append_parts(case: &[u8], before: &mut [u8], buffer: &mut [u8]) {
     prepare(item(case, 6), item(case, 7), before);
     prepare(item(case, 6), item(case, 7), buffer);
-    begin(case, b"append");
-    let used = append_in(case, buffer);
+    append_prepared(case, before, buffer);
+}
+
+fn append_prepared(case: &[u8], before: &[u8], buffer: &mut [u8]) {
+    begin(case, called(number(case, 9), b"append", b"append pi"));
+    let used = append_in(number(case, 9), case, buffer);
     change_fields(before, buffer);
-    search_fields(
-        prefix(buffer, used),
-        byte_at(item(case, 4), 0),
-        number(case, 8),
-    );
+    search_appended(case, prefix(buffer, used));
     end();
 }
 
+// The search for the type appended.
+fn search_appended(case: &[u8], stream: &[u8]) {
+    search_fields(
+        number(case, 9),
+        stream,
+        byte_at(item(case, 4), 0),
+        number(case, 8),
+    );
+}
+
 // The used count afterwards; as it was on a refusal.
-fn append_in(case: &[u8], buffer: &mut [u8]) -> usize {
+fn append_in(mode: u64, case: &[u8], buffer: &mut [u8]) -> usize {
     let n = least(number(case, 2) as usize, buffer.len());
     let used = number(case, 3) as usize;
     let answer = append(
+        mode_of(mode),
         &mut buffer[..n],
         used,
         byte_at(item(case, 4), 0),

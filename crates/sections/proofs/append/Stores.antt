@@ -1,16 +1,23 @@
--- The stores of appending: padding, size, type and body one after another are the leaf with its padding, and it takes the bytes up to
--- the new used count.
-use Prim.Native.Nat.{ℕ, zero, suc, _+_, _-_, _%_, _≤_, _<_}
+-- The stores of appending: a header's fields one after another are the header, padding, header and body one after another are the leaf
+-- with its padding, and it takes the bytes up to the new used count.
+use Prim.Native.Nat.{ℕ, zero, suc, _+_, _-_, _/_, _%_, _≤_, _<_}
 use mathlib.Core.Path.{_≡_, refl, sym, ap, _∙_}
+use mathlib.Core.Bool.{Bool, true, false, cond}
 use mathlib.Core.List.{List, [], _∷_, _++_, append-assoc, append-nil}
+use mathlib.Core.Logic.{_⊎_, inl, inr}
 use native.Mathlib.Omega.{arith}
-use lib.ListN.{length, take, drop, replicate, length-append, length-drop, length-replicate, drop-of-length-le}
+use borrow.Author.Tests.{eq-eqb, ne-eqb}
+use lib.ListN.{length, set, take, drop, replicate, length-append, length-drop, length-replicate, drop-of-length-le}
 use lib.Seq.{sets, length-sets, sets-eq, drop-drop, length-take-le, take-length}
 use Rattle.common.proofs.Lists.{sets-append}
 use Rattle.numbers.specs.LittleEndian.{leBytes}
 use Rattle.numbers.proofs.LittleEndian.{length-leBytes}
-use Rattle.sections.specs.Walk.{aligned}
-use Rattle.sections.specs.Append.{leafSize, usedAfter, leaf, added}
+use Rattle.sections.specs.Types.{commonHeader}
+use Rattle.sections.specs.Header.{largestField, longHeader}
+use Rattle.sections.specs.Walk.{aligned, streamLimit}
+use Rattle.sections.specs.Append.{needsLong, leafHeader, usedAfter, leafStart, addedWith, added}
+use Rattle.sections.specs.declared.header.Mode.{Mode}
+use Rattle.sections.specs.declared.header.Mode.the-variants.{Framework, Pi}
 
 -- a copy into a part that is as long as it is a run of stores into the whole
 sets-part : (b l : List ℕ) (at n : ℕ) → n ≡ length b → at + n ≤ length l
@@ -33,52 +40,122 @@ one-byte x h = let e : x % 256 ≡ x = omega arith in rw e
 then-sets : (a b l m : List ℕ) (i j : ℕ) → m ≡ sets l i a → j ≡ i + length a → sets m j b ≡ sets l i (a ++ b)
 then-sets a b l m i j e q = rw (e, q) (sym (sets-append a b l i))
 
--- padding, size, type and body stored one after another, each where the one before ends, are the leaf stored with its padding
-pub leaf-stored : (l l₁ l₂ l₃ body w : List ℕ) (used pad start size at t from k : ℕ)
-    → l₁ ≡ sets l used (leBytes pad 0) → l₂ ≡ sets l₁ start (leBytes 3 size) → l₃ ≡ sets l₂ at (leBytes 1 t)
-    → w ≡ take (length body) body ++ drop (length body) (take k (drop from l₃))
-    → start ≡ aligned used → pad ≡ start - used → size ≡ leafSize (length body) → at ≡ start + 3 → from ≡ start + 4
-    → t < 256 → k ≡ length body → from + k ≤ length l → take from l₃ ++ (w ++ drop k (drop from l₃)) ≡ sets l used (added used t body)
-unfolding added leaf
-leaf-stored l l₁ l₂ l₃ body w used pad start size at t from k e₁ e₂ e₃ ew sa pe se ae fe small n fits =
-    let z : List ℕ = leBytes pad 0 in
-    let h : List ℕ = leBytes 3 size in
-    let b : List ℕ = leBytes 1 t in
-    let lz : length z ≡ pad = length-leBytes pad 0 in
-    let lh : length h ≡ 3 = length-leBytes 3 size in
-    let lb : length b ≡ 1 = length-leBytes 1 t in
-    let lzh : length (z ++ h) ≡ length z + length h = length-append z h in
-    let lzhb : length ((z ++ h) ++ b) ≡ length (z ++ h) + length b = length-append (z ++ h) b in
-    let s₂ : l₂ ≡ sets l used (z ++ h) = e₂ ∙ then-sets z h l l₁ used start e₁ (omega arith) in
-    let s₃ : l₃ ≡ sets l used ((z ++ h) ++ b) = e₃ ∙ then-sets (z ++ h) b l l₂ used at s₂ (omega arith) in
-    let s₄ : sets l₃ from body ≡ sets l used (((z ++ h) ++ b) ++ body) =
-    then-sets ((z ++ h) ++ b) body l l₃ used from s₃ (omega arith) in
-    let l₃-length : length l₃ ≡ length l = ap length s₃ ∙ length-sets l used ((z ++ h) ++ b) in
-    let padding : z ≡ replicate (aligned used - used) 0 = zero-bytes pad ∙ rw (pe, sa) in
-    let header : h ≡ leBytes 3 (leafSize (length body)) = rw se in
-    let bytes : ((z ++ h) ++ b) ++ body ≡ replicate (aligned used - used) 0 ++ (leBytes 3 (leafSize (length body)) ++ t ∷ body) =
-    rw (padding, header, one-byte t small) (simp append-assoc) in
-    rw ew (sets-part body l₃ from k n (omega arith)) ∙ s₄ ∙ ap (sets l used) bytes
+-- bounds of a leaf's header and of the stream limit
+pub most-header : (mode : Mode) (m : ℕ) {header : ℕ} → header ≡ leafHeader mode m → header ≤ longHeader
+unfolding leafHeader
+most-header mode m e = go (needsLong mode m) e
+  where
+    go : (long : Bool) {header : ℕ} → header ≡ cond long longHeader commonHeader → header ≤ longHeader
+    go true e = omega arith
+    go false e = omega arith
+
+pub least-header : (mode : Mode) (m : ℕ) → commonHeader ≤ leafHeader mode m
+unfolding leafHeader
+least-header mode m = go (needsLong mode m)
+  where
+    go : (long : Bool) → commonHeader ≤ cond long longHeader commonHeader
+    go true = omega arith
+    go false = omega arith
+
+pub most-limit : (mode : Mode) {limit : ℕ} → limit ≡ streamLimit mode → limit ≤ 67108864
+unfolding streamLimit
+most-limit Framework e = omega arith
+most-limit Pi e = omega arith
+
+-- which header it is
+pub header-long : (mode : Mode) (m : ℕ) → needsLong mode m ≡ true → leafHeader mode m ≡ longHeader
+unfolding leafHeader
+header-long mode m e = rw e
+
+pub header-short : (mode : Mode) (m : ℕ) → needsLong mode m ≡ false → leafHeader mode m ≡ commonHeader
+unfolding leafHeader
+header-short mode m e = rw e
+
+pub either-header : (mode : Mode) (m : ℕ) {header : ℕ} → header ≡ leafHeader mode m → (header ≡ 4) ⊎ (header ≡ 8)
+unfolding leafHeader
+either-header mode m e = go (needsLong mode m) e
+  where
+    go : (long : Bool) {header : ℕ} → header ≡ cond long longHeader commonHeader → (header ≡ 4) ⊎ (header ≡ 8)
+    go true e = inr e
+    go false e = inl e
+
+pub either-least : {header : ℕ} → (header ≡ 4) ⊎ (header ≡ 8) → 4 ≤ header
+either-least (inl e) = omega arith
+either-least (inr e) = omega arith
+
+-- what a leaf's header holds, by its length
+pub short-start : (header t m : ℕ) → (header ≡ 8 → ⊥) → leafStart header t m ≡ leBytes 3 (header + m) ++ t ∷ []
+unfolding leafStart
+short-start header t m short = rw (ne-eqb header longHeader short)
+
+pub long-start : (header t m : ℕ) → header ≡ 8 → leafStart header t m ≡ leBytes 3 largestField ++ t ∷ leBytes 4 (header + m)
+unfolding leafStart
+long-start header t m long = rw (eq-eqb header longHeader long)
+
+-- a size and a type stored byte by byte are a short header stored
+pub short-stored : (l : List ℕ) (start header m size i j k t : ℕ) → (header ≡ 8 → ⊥) → size ≡ header + m → i ≡ start + 1 → j ≡ start + 2 → k ≡ start + 3
+    → set (set (set (set l start (size % 256)) i (size / 256 % 256)) j (size / 65536 % 256)) k t ≡ sets l start (leafStart header t m)
+unfolding leBytes
+short-stored l start header m size i j k t short se ie je ke =
+    let two : size / 65536 % 256 ≡ size / 256 / 256 % 256 = omega arith in
+    let a : i ≡ suc start = omega arith in
+    let b : j ≡ suc (suc start) = omega arith in
+    let c : k ≡ suc (suc (suc start)) = omega arith in
+    rw (short-start header t m short, ← se, two, a, b, c)
+
+-- FF FF FF, a type and a 32-bit size stored one after another are a long header stored
+pub long-stored : (l l₁ l₂ l₃ : List ℕ) (start at behind t m header size : ℕ)
+    → l₁ ≡ sets l start (leBytes 3 largestField) → l₂ ≡ sets l₁ at (leBytes 1 t) → l₃ ≡ sets l₂ behind (leBytes 4 size)
+    → header ≡ 8 → size ≡ header + m → at ≡ start + 3 → behind ≡ start + 4 → t < 256
+    → l₃ ≡ sets l start (leafStart header t m)
+long-stored l l₁ l₂ l₃ start at behind t m header size e₁ e₂ e₃ long se ae be small =
+    let first : List ℕ = leBytes 3 largestField ++ t ∷ [] in
+    let three = length-leBytes 3 largestField in
+    let n : length first ≡ 4 = length-append (leBytes 3 largestField) (t ∷ []) ∙ ap (λ (k : ℕ). k + 1) three in
+    let s₂ : l₂ ≡ sets l start first =
+    e₂ ∙ rw (one-byte t small) (then-sets (leBytes 3 largestField) (t ∷ []) l l₁ start at e₁ (omega arith)) in
+    e₃ ∙ then-sets first (leBytes 4 size) l l₂ start behind s₂ (omega arith)
+    ∙ rw (se, long-start header t m long) (ap (sets l start) (append-assoc (leBytes 3 largestField) (t ∷ []) (leBytes 4 (header + m))))
 
 -- the padding and the leaf take the bytes up to the new used count
-length-leaf : (t : ℕ) (body : List ℕ) → length (leaf t body) ≡ leafSize (length body)
-unfolding leaf
-length-leaf t body =
-    let a = length-append (leBytes 3 (leafSize (length body))) (t ∷ body) in
-    let b = length-leBytes 3 (leafSize (length body)) in
+pub length-leafStart : (header t m : ℕ) → (header ≡ 4) ⊎ (header ≡ 8) → length (leafStart header t m) ≡ header
+unfolding leafStart leBytes
+length-leafStart header t m (inl e) = rw e
+length-leafStart header t m (inr e) = rw e
+
+pub length-added : (mode : Mode) (used t : ℕ) (body : List ℕ) → used + length (added mode used t body) ≡ usedAfter mode used (length body)
+unfolding addedWith
+length-added mode used t body =
+    let start = leafStart (leafHeader mode (length body)) t (length body) in
+    let a = length-append (replicate (aligned used - used) 0) (start ++ body) in
+    let b : length (replicate {A = ℕ} (aligned used - used) 0) ≡ aligned used - used = length-replicate (aligned used - used) 0 in
+    let c = length-append start body in
+    let d : length start ≡ leafHeader mode (length body) = length-leafStart _ t (length body) (either-header mode (length body) refl) in
     omega arith
 
-pub length-added : (used t : ℕ) (body : List ℕ) → used + length (added used t body) ≡ usedAfter used (length body)
-unfolding added
-length-added used t body =
-    let a = length-append (replicate (aligned used - used) 0) (leaf t body) in
-    let b : length (replicate {A = ℕ} (aligned used - used) 0) ≡ aligned used - used = length-replicate (aligned used - used) 0 in
-    let c = length-leaf t body in
-    omega arith
+-- padding, header and body stored one after another, each where the one before ends, are the leaf stored with its padding
+pub leaf-stored : (l l₁ l₂ body w : List ℕ) (header used pad start t from k : ℕ) → (header ≡ 4) ⊎ (header ≡ 8)
+    → l₁ ≡ sets l used (leBytes pad 0) → l₂ ≡ sets l₁ start (leafStart header t (length body))
+    → w ≡ take (length body) body ++ drop (length body) (take k (drop from l₂))
+    → start ≡ aligned used → pad ≡ start - used → from ≡ start + header → k ≡ length body → from + k ≤ length l
+    → take from l₂ ++ (w ++ drop k (drop from l₂)) ≡ sets l used (addedWith header used t body)
+unfolding addedWith
+leaf-stored l l₁ l₂ body w header used pad start t from k either e₁ e₂ ew sa pe fe n fits =
+    let z : List ℕ = leBytes pad 0 in
+    let h : List ℕ = leafStart header t (length body) in
+    let lz : length z ≡ pad = length-leBytes pad 0 in
+    let lh : length h ≡ header = length-leafStart header t (length body) either in
+    let lzh : length (z ++ h) ≡ length z + length h = length-append z h in
+    let s₂ : l₂ ≡ sets l used (z ++ h) = e₂ ∙ then-sets z h l l₁ used start e₁ (omega arith) in
+    let s₃ : sets l₂ from body ≡ sets l used ((z ++ h) ++ body) = then-sets (z ++ h) body l l₂ used from s₂ (omega arith) in
+    let l₂-length : length l₂ ≡ length l = ap length s₂ ∙ length-sets l used (z ++ h) in
+    let padding : z ≡ replicate (aligned used - used) 0 = zero-bytes pad ∙ rw (pe, sa) in
+    let bytes : (z ++ h) ++ body ≡ replicate (aligned used - used) 0 ++ (h ++ body) = rw padding (simp append-assoc) in
+    rw ew (sets-part body l₂ from k n (omega arith)) ∙ s₃ ∙ ap (sets l used) bytes
 
 -- the buffer with the padding and the leaf stored
-pub buffer-stored : (l : List ℕ) (used t : ℕ) (body : List ℕ) → usedAfter used (length body) ≤ length l
-    → sets l used (added used t body) ≡ take used l ++ added used t body ++ drop (usedAfter used (length body)) l
-buffer-stored l used t body h =
-    let n = length-added used t body in
-    sets-eq (added used t body) l used (omega arith) ∙ ap (λ (k : ℕ). take used l ++ added used t body ++ drop k l) n
+pub buffer-stored : (mode : Mode) (l : List ℕ) (used t : ℕ) (body : List ℕ) → usedAfter mode used (length body) ≤ length l
+    → sets l used (added mode used t body) ≡ take used l ++ added mode used t body ++ drop (usedAfter mode used (length body)) l
+buffer-stored mode l used t body h =
+    let n = length-added mode used t body in
+    sets-eq (added mode used t body) l used (omega arith) ∙ ap (λ (k : ℕ). take used l ++ added mode used t body ++ drop k l) n

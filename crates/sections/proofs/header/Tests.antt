@@ -1,172 +1,241 @@
--- What the reader of a section header meets, test by test, in order: 201 to 203, then the holder's own fields and 204.
+-- The header at a start: by what the size reader answers of it, and past 203 a holder's own fields and 204.
 use Prim.Native.Nat.{ℕ, _+_, _-_, _%_, _≤_, _<_}
-use mathlib.Core.Path.{_≡_, sym, ap, _∙_}
+use mathlib.Core.Path.{_≡_, refl, sym, ap, _∙_}
 use mathlib.Core.Bool.{Bool, true, false, cond, _&&_}
-use mathlib.Core.List.{List}
+use mathlib.Core.List.{List, [], _∷_}
+use mathlib.Core.Option.{Option, none, some}
 use native.Mathlib.Omega.{arith}
 use borrow.Author.Tests.{lt-ltb, le-ltb, eq-eqb, ne-eqb}
-use lib.Dec.{eqb}
+use lib.Dec.{eqb, ltb}
 use lib.ListN.{length, getD}
-use Rattle.common.specs.Refusals.{firstRefusal}
+use Rattle.common.specs.Refusals.{Row, row, firstRefusal}
+use Rattle.common.proofs.Refusals.{then-passed, then-refused}
 use Rattle.numbers.specs.LittleEndian.{le}
-use Rattle.sections.specs.Types.{compression, typeInfo}
-use Rattle.sections.specs.Header.{sizeAt, typeAt, unpackedLength, compressionKind, dataOffset, attributes, isHolder}
-use Rattle.sections.specs.Header.{contentsAt, firstAt, packed, wrongContents, headFaults, sectionAt, headAt, Lies}
-use Rattle.sections.specs.declared.types.TypeInfo.{TypeInfo}
+use Rattle.sections.specs.Types.{compression, guidDefined, typeInfo}
+use Rattle.sections.specs.Header.{headerLength, sizeAt, typeAt, grown, leastSize, unpackedLength, compressionKind}
+use Rattle.sections.specs.Header.{dataOffset, attributes, isHolder, contentsAt, packed, wrongContents, sizeFaults, headFaults, sectionOf, sectionAt}
+use Rattle.sections.specs.Header.{headAt, sizedAt, holderOf, Lies}
+use Rattle.sections.specs.declared.header.Mode.{Mode}
+use Rattle.sections.specs.declared.header.Size.{Size}
+use Rattle.sections.specs.declared.header.Size.the-variants.{Refused, Leaf, Holder}
+use Rattle.sections.specs.declared.header.Head.{Head}
 use Rattle.sections.specs.declared.header.Head.the-variants.{Fault, Closed, Open}
-use Rattle.sections.proofs.types.Rows.{least-range}
+use Rattle.sections.proofs.types.Rows.{least-compression, least-guid, holder-guid, holds-compression}
+use Rattle.sections.proofs.header.Sizes.{header-range, Fits, size-none, none-fits}
 
--- the reader's tests, in order, over the type, the size and the class that it read
-pub head-201 : (s : List ℕ) (at : ℕ) → length s - at < 4 → Fault 201 ≡ headAt s at
-unfolding headAt headFaults firstRefusal
-head-201 s at h = rw (lt-ltb (length s - at) 4 h)
+-- the header at a start: a fault of the size reader; and past them what is left is 204 and the section
+module _ (mode : Mode) (s : List ℕ) (at : ℕ) where
+  -- the last row
+  abbrev last : List Row
+  last = row (isHolder (typeInfo (typeAt s at) .class) && wrongContents s at (typeAt s at) (headerLength mode s at) (sizeAt mode s at)) 204 ∷ []
 
--- past 203 what is left is 204 and the section
-pub head-past-203 : (s : List ℕ) (at : ℕ) → 4 ≤ length s - at → typeInfo (typeAt s at) .least ≤ sizeAt s at → sizeAt s at ≤ length s - at
-    → (w : Bool) → (isHolder (typeInfo (typeAt s at) .class) && wrongContents s at) ≡ w → cond w (Fault 204) (sectionAt s at) ≡ headAt s at
-unfolding headAt headFaults firstRefusal
-head-past-203 s at a b h true e =
-    rw (le-ltb (length s - at) 4 a, le-ltb (sizeAt s at) (typeInfo (typeAt s at) .least) b, le-ltb (length s - at) (sizeAt s at) h, e)
-head-past-203 s at a b h false e =
-    rw (le-ltb (length s - at) 4 a, le-ltb (sizeAt s at) (typeInfo (typeAt s at) .least) b, le-ltb (length s - at) (sizeAt s at) h, e)
+  pub head-refused : {n : ℕ} → firstRefusal (sizeFaults mode (length s - at) s at) ≡ some n → headAt mode s at ≡ Fault n
+  unfolding headAt headFaults
+  head-refused {n} e = rw (then-refused _ last n e)
 
--- over what the reader read: the header's type and size, and what the type stands for
-module _ (s : List ℕ) (at : ℕ) {sectionType size : ℕ} {info : TypeInfo} (the-type : sectionType ≡ typeAt s at) (the-size : size ≡ sizeAt s at)
-    (known : info ≡ typeInfo sectionType) where
-  is-known : info ≡ typeInfo (typeAt s at)
-  is-known = known ∙ ap typeInfo the-type
-
-  pub head-202 : 4 ≤ length s - at → size < info .least → Fault 202 ≡ headAt s at
+  pub head-past-203 : Fits mode (length s - at) s at
+      → (w : Bool) → (isHolder (typeInfo (typeAt s at) .class) && wrongContents s at (typeAt s at) (headerLength mode s at) (sizeAt mode s at)) ≡ w
+      → cond w (Fault 204) (sectionAt mode s at) ≡ headAt mode s at
   unfolding headAt headFaults firstRefusal
-  head-202 a h =
-      let h′ : sizeAt s at < typeInfo (typeAt s at) .least = rw (is-known, the-size) at h in
-      rw (le-ltb (length s - at) 4 a, lt-ltb (sizeAt s at) (typeInfo (typeAt s at) .least) h′)
+  head-past-203 f true e = rw (then-passed _ last (size-none mode (length s - at) s at f), e)
+  head-past-203 f false e = rw (then-passed _ last (size-none mode (length s - at) s at f), e)
 
-  pub head-203 : 4 ≤ length s - at → info .least ≤ size → length s - at < size → Fault 203 ≡ headAt s at
-  unfolding headAt headFaults firstRefusal
-  head-203 a b h =
-      let b′ : typeInfo (typeAt s at) .least ≤ sizeAt s at = rw (is-known, the-size) at b in
-      let h′ : length s - at < sizeAt s at = rw the-size at h in
-      rw (le-ltb (length s - at) 4 a, le-ltb (sizeAt s at) (typeInfo (typeAt s at) .least) b′, lt-ltb (length s - at) (sizeAt s at) h′)
+  pub head-leaf : Fits mode (length s - at) s at → isHolder (typeInfo (typeAt s at) .class) ≡ false
+      → headAt mode s at ≡ Closed (typeAt s at) (at + headerLength mode s at) (at + sizeAt mode s at)
+  unfolding sectionOf
+  head-leaf f l = sym (rw l at (head-past-203 f false (rw l)))
 
-  -- a leaf that lies whole
-  pub head-leaf : {first end : ℕ} → isHolder (info .class) ≡ false → 4 ≤ length s - at → info .least ≤ size → size ≤ length s - at
-      → first ≡ firstAt at → end ≡ at + size → Closed sectionType first end ≡ headAt s at
-  unfolding sectionAt
-  head-leaf leaf a b h f e =
-      let l : isHolder (typeInfo (typeAt s at) .class) ≡ false = rw is-known at leaf in
-      rw (f, e, the-type, the-size) (rw l at (head-past-203 s at a (rw (is-known, the-size) at b) (rw the-size at h) false (rw l)))
+  pub head-holder : Fits mode (length s - at) s at → isHolder (typeInfo (typeAt s at) .class) ≡ true
+      → headAt mode s at ≡ holderOf s at (typeAt s at) (headerLength mode s at) (sizeAt mode s at)
+  unfolding holderOf
+  head-holder f h = sym (head-past-203 f (wrongContents s at (typeAt s at) (headerLength mode s at) (sizeAt mode s at)) (rw h))
 
-  -- a holder that lies whole
-  pub head-lies : isHolder (info .class) ≡ true → info .least ≤ size → at < length s → size ≤ length s - at → Lies s at sectionType size
-  head-lies holds b here h = record {
-    sized = the-size;
-    typed = the-type;
-    holds = rw known at holds;
-    least = rw known at b;
-    whole = omega arith;
-  }
+  -- by what the size reader answers
+  pub head-of-refused : {n : ℕ} → sizedAt mode (length s - at) s at ≡ Refused n → Fault n ≡ headAt mode s at
+  unfolding sizedAt
+  head-of-refused {n} p = go (firstRefusal (sizeFaults mode (length s - at) s at)) refl
+    where
+      go : (o : Option ℕ) → firstRefusal (sizeFaults mode (length s - at) s at) ≡ o → Fault n ≡ headAt mode s at
+      go (some m) e =
+          let q : Refused m ≡ Refused n = rw e at p in
+          let k : n ≡ m = cc in
+          ap Fault k ∙ sym (head-refused e)
+      go none e = absurd (leaf-or-holder (isHolder (typeInfo (typeAt s at) .class)) (rw e at p))
+        where
+          leaf-or-holder : (b : Bool) → cond b (Holder (typeAt s at) (headerLength mode s at) (sizeAt mode s at))
+              (Leaf (typeAt s at) (headerLength mode s at) (sizeAt mode s at)) ≡ Refused n → ⊥
+          leaf-or-holder true q = let z : _≡_ {A = ℕ} 0 1 = cc in absurd (omega arith)
+          leaf-or-holder false q = let z : _≡_ {A = ℕ} 0 1 = cc in absurd (omega arith)
 
--- what a holder that lies whole is, by its contents
-module _ {s : List ℕ} {at sectionType size : ℕ} (l : Lies s at sectionType size) where
-  holder-head : (w : Bool) → wrongContents s at ≡ w → cond w (Fault 204) (sectionAt s at) ≡ headAt s at
-  holder-head w e =
-      let q = least-range sectionType .0 in
-      let h : isHolder (typeInfo (typeAt s at) .class) ≡ true = rw (l .typed) at (l .holds) in
-      let b : typeInfo (typeAt s at) .least ≤ sizeAt s at = rw (l .typed, l .sized) at (l .least) in
-      let four : 4 ≤ typeInfo (typeAt s at) .least = rw (l .typed) at q in
-      let fits = l .whole in
-      let n = l .sized in
-      head-past-203 s at (omega arith) b (omega arith) w (rw h e)
+  -- a leaf or a holder, as it was answered
+  pub record Sized (holder : Bool) (t h z : ℕ) : Type 0 where
+    pub fits : Fits mode (length s - at) s at
+    pub class : isHolder (typeInfo (typeAt s at) .class) ≡ holder
+    pub typed : t ≡ typeAt s at
+    pub headed : h ≡ headerLength mode s at
+    pub sized : z ≡ sizeAt mode s at
 
-  holder-204 : wrongContents s at ≡ true → Fault 204 ≡ headAt s at
-  holder-204 e = holder-head true e
+  sized-none : {r : Size} → sizedAt mode (length s - at) s at ≡ r → ((n : ℕ) → r ≡ Refused n → ⊥)
+      → (firstRefusal (sizeFaults mode (length s - at) s at) ≡ none)
+      × (cond (isHolder (typeInfo (typeAt s at) .class)) (Holder (typeAt s at) (headerLength mode s at) (sizeAt mode s at))
+      (Leaf (typeAt s at) (headerLength mode s at) (sizeAt mode s at)) ≡ r)
+  unfolding sizedAt
+  sized-none {r} p other = go (firstRefusal (sizeFaults mode (length s - at) s at)) refl
+    where
+      go : (o : Option ℕ) → firstRefusal (sizeFaults mode (length s - at) s at) ≡ o
+          → (firstRefusal (sizeFaults mode (length s - at) s at) ≡ none)
+          × (cond (isHolder (typeInfo (typeAt s at) .class)) (Holder (typeAt s at) (headerLength mode s at) (sizeAt mode s at))
+          (Leaf (typeAt s at) (headerLength mode s at) (sizeAt mode s at)) ≡ r)
+      go (some m) e = let q : Refused m ≡ r = rw e at p in absurd (other m (sym q))
+      go none e = (e, rw e at p)
 
-  module _ {first end : ℕ} (fe : first ≡ firstAt at) (ee : end ≡ at + size) where
-    holder-closed : wrongContents s at ≡ false → packed s at ≡ true → Closed sectionType first end ≡ headAt s at
-    unfolding sectionAt
-    holder-closed e p =
-        let h : isHolder (typeInfo (typeAt s at) .class) ≡ true = rw (l .typed) at (l .holds) in
-        rw (fe, ee, l .typed, l .sized) (rw (h, p) at (holder-head false e))
+  -- so the class tells which of the two it is
+  is-sized : (b : Bool) {t h z : ℕ} → sizedAt mode (length s - at) s at ≡ cond b (Holder t h z) (Leaf t h z) → Sized b t h z
+  is-sized b {t} {h} {z} p =
+      let x = sized-none p (not-refused b) in
+      go b (isHolder (typeInfo (typeAt s at) .class)) refl (x .0) (x .1)
+    where
+      not-refused : (b : Bool) (n : ℕ) → cond b (Holder t h z) (Leaf t h z) ≡ Refused n → ⊥
+      not-refused true n q = let z : _≡_ {A = ℕ} 0 1 = cc in absurd (omega arith)
+      not-refused false n q = let z : _≡_ {A = ℕ} 0 1 = cc in absurd (omega arith)
 
-    holder-open : {from : ℕ} → contentsAt s at ≡ from → wrongContents s at ≡ false → packed s at ≡ false → Open sectionType first from end ≡ headAt s at
-    unfolding sectionAt
-    holder-open c e p =
-        let h : isHolder (typeInfo (typeAt s at) .class) ≡ true = rw (l .typed) at (l .holds) in
-        rw (fe, ee, l .typed, l .sized) (rw (h, p, c) at (holder-head false e))
+      go : (b c : Bool) → isHolder (typeInfo (typeAt s at) .class) ≡ c → firstRefusal (sizeFaults mode (length s - at) s at) ≡ none
+          → cond (isHolder (typeInfo (typeAt s at) .class)) (Holder (typeAt s at) (headerLength mode s at) (sizeAt mode s at))
+          (Leaf (typeAt s at) (headerLength mode s at) (sizeAt mode s at)) ≡ cond b (Holder t h z) (Leaf t h z) → Sized b t h z
+      go true true e f q =
+          let r : Holder (typeAt s at) (headerLength mode s at) (sizeAt mode s at) ≡ Holder t h z = rw e at q in
+          record { fits = none-fits mode (length s - at) s at f; class = e; typed = cc; headed = cc; sized = cc }
+      go false false e f q =
+          let r : Leaf (typeAt s at) (headerLength mode s at) (sizeAt mode s at) ≡ Leaf t h z = rw e at q in
+          record { fits = none-fits mode (length s - at) s at f; class = e; typed = cc; headed = cc; sized = cc }
+      go true false e f q =
+          let r : Leaf (typeAt s at) (headerLength mode s at) (sizeAt mode s at) ≡ Holder t h z = rw e at q in
+          let z : _≡_ {A = ℕ} 0 1 = cc in absurd (omega arith)
+      go false true e f q =
+          let r : Holder (typeAt s at) (headerLength mode s at) (sizeAt mode s at) ≡ Leaf t h z = rw e at q in
+          let z : _≡_ {A = ℕ} 0 1 = cc in absurd (omega arith)
 
--- the compression section's own tests, over the kind byte and the unpacked length that were read, and where
-module _ {s : List ℕ} {at size : ℕ} (l : Lies s at compression size) {p kind : ℕ} (read : kind ≡ getD s p 0) (kp : p ≡ at + 8) where
-  is-compression : eqb (typeAt s at) compression ≡ true
-  is-compression = eq-eqb (typeAt s at) compression (sym (l .typed))
+  pub leaf-inside : {t h z : ℕ} → sizedAt mode (length s - at) s at ≡ Leaf t h z → at < length s → (at + h ≤ length s) × (at + z ≤ length s)
+  leaf-inside p here =
+      let x = is-sized false p in
+      let a = x .headed in
+      let b = x .sized in
+      let l = x .fits .headed in
+      let m = x .fits .fits in
+      (omega arith, omega arith)
 
-  the-kind : kind ≡ compressionKind s at
-  the-kind = rw kp at read
+  pub head-of-leaf : {t h z first end : ℕ} → sizedAt mode (length s - at) s at ≡ Leaf t h z → first ≡ at + h → end ≡ at + z
+      → Closed t first end ≡ headAt mode s at
+  head-of-leaf p f e =
+      let x = is-sized false p in
+      rw (f, e, x .typed, x .headed, x .sized) (sym (head-leaf (x .fits) (x .class)))
 
-  pub compression-packed : {first end : ℕ} → (kind ≡ 0 → ⊥) → first ≡ firstAt at → end ≡ at + size → Closed compression first end ≡ headAt s at
+  pub head-of-holder : {t h z : ℕ} {r : Head} → sizedAt mode (length s - at) s at ≡ Holder t h z → r ≡ holderOf s at t h z → r ≡ headAt mode s at
+  head-of-holder p q =
+      let x = is-sized true p in
+      q ∙ rw (x .typed, x .headed, x .sized) (sym (head-holder (x .fits) (x .class)))
+
+  pub lies : {t h z : ℕ} → sizedAt mode (length s - at) s at ≡ Holder t h z → at < length s → length s < 18446744073709551616 → Lies s at t h z
+  lies {t} {h} {z} p here bound =
+      let x = is-sized true p in
+      let f = x .fits in
+      let r = header-range mode s at in
+      let a = x .headed in
+      let b = x .sized in
+      let k : leastSize h t ≡ leastSize (headerLength mode s at) (typeAt s at) = rw (x .headed, x .typed) in
+      let l = f .least in
+      let m = f .fits in
+      record { holds = rw (x .typed) (x .class); header-least = omega arith; header-most = omega arith; least = omega arith; fields = omega arith; bound = omega arith }
+
+-- the fields of the two holders lie in the bytes that are read
+pub lies-compression : {s : List ℕ} {at h z : ℕ} → Lies s at compression h z → (at + grown h 9 ≤ length s) × (grown h 9 ≤ z)
+lies-compression l =
+    let k = least-compression compression refl in
+    let a = l .fields in
+    let b = l .least in
+    (omega arith, omega arith)
+
+pub lies-guid : {s : List ℕ} {at t h z : ℕ} → Lies s at t h z → (t ≡ compression → ⊥) → (at + grown h 24 ≤ length s) × (grown h 24 ≤ z)
+lies-guid {t = t} l other =
+    let k = least-guid t (eq-eqb t guidDefined (holder-guid t (l .holds) (ne-eqb t compression other))) in
+    let a = l .fields in
+    let b = l .least in
+    (omega arith, omega arith)
+
+-- a holder by its own fields
+module _ (s : List ℕ) (at t h z : ℕ) (holds : isHolder (typeInfo t .class) ≡ true) where
+  holder-204 : wrongContents s at t h z ≡ true → Fault 204 ≡ holderOf s at t h z
+  unfolding holderOf
+  holder-204 e = rw e
+
+  module _ {first end : ℕ} (fe : first ≡ at + h) (ee : end ≡ at + z) (right : wrongContents s at t h z ≡ false) where
+    holder-closed : packed s at t h ≡ true → Closed t first end ≡ holderOf s at t h z
+    unfolding holderOf sectionOf
+    holder-closed p = rw (right, holds, p, fe, ee)
+
+    holder-open : {from : ℕ} → contentsAt s at t h ≡ from → packed s at t h ≡ false → Open t first from end ≡ holderOf s at t h z
+    unfolding holderOf sectionOf
+    holder-open c p = rw (right, holds, p, c, fe, ee)
+
+-- the compression section's own tests, over the unpacked length that was read
+module _ (s : List ℕ) (at h z : ℕ) where
+  holds : isHolder (typeInfo compression .class) ≡ true
+  holds = holds-compression compression refl
+
+  pub compression-packed : {first end : ℕ} → (compressionKind s (at + h) ≡ 0 → ⊥) → first ≡ at + h → end ≡ at + z
+      → Closed compression first end ≡ holderOf s at compression h z
   unfolding wrongContents packed
   compression-packed k f e =
-      let n = ne-eqb (compressionKind s at) 0 (rw the-kind at k) in
-      holder-closed l f e (rw (is-compression, n)) (rw (is-compression, n))
+      let n = ne-eqb (compressionKind s (at + h)) 0 k in
+      holder-closed _ _ _ _ _ holds f e (rw n) (rw n)
 
-  module _ {q u : ℕ} (told : u ≡ le 4 s q) (up : q ≡ at + 4) (k : kind ≡ 0) where
-    the-length : u ≡ unpackedLength s at
-    the-length = rw up at told
-
-    pub compression-204 : (u ≡ size - 9 → ⊥) → Fault 204 ≡ headAt s at
+  module _ {u : ℕ} (told : u ≡ unpackedLength s (at + h)) (k : compressionKind s (at + h) ≡ 0) where
+    pub compression-204 : (u ≡ z - grown h 9 → ⊥) → Fault 204 ≡ holderOf s at compression h z
     unfolding wrongContents
-    compression-204 h =
-        let e = eq-eqb (compressionKind s at) 0 (rw the-kind at k) in
-        let f : eqb (unpackedLength s at) (sizeAt s at - 9) ≡ false = ne-eqb _ _ (rw (the-length, l .sized) at h) in
-        holder-204 l (rw (is-compression, e, f))
+    compression-204 w =
+        let f : eqb (unpackedLength s (at + h)) (z - grown h 9) ≡ false = ne-eqb _ _ (rw told at w) in
+        holder-204 _ _ _ _ _ holds (rw (eq-eqb (compressionKind s (at + h)) 0 k, f))
 
-    pub compression-open : {first from end : ℕ} → u ≡ size - 9 → first ≡ firstAt at → from ≡ at + 9 → end ≡ at + size
-        → Open compression first from end ≡ headAt s at
+    pub compression-open : {first from end : ℕ} → u ≡ z - grown h 9 → first ≡ at + h → from ≡ at + grown h 9 → end ≡ at + z
+        → Open compression first from end ≡ holderOf s at compression h z
     unfolding wrongContents packed contentsAt
-    compression-open h fe c ee =
-        let e = eq-eqb (compressionKind s at) 0 (rw the-kind at k) in
-        let f : eqb (unpackedLength s at) (sizeAt s at - 9) ≡ true = eq-eqb _ _ (rw (the-length, l .sized) at h) in
-        holder-open l fe ee (rw (is-compression, c)) (rw (is-compression, e, f)) (rw (is-compression, e))
+    compression-open w fe c ee =
+        let f : eqb (unpackedLength s (at + h)) (z - grown h 9) ≡ true = eq-eqb _ _ (rw told at w) in
+        let n = eq-eqb (compressionKind s (at + h)) 0 k in
+        holder-open _ _ _ _ _ holds fe ee (rw (n, f)) (sym c) (rw n)
 
--- the GUID-defined section's own tests, over the data offset and the attributes that were read, and where
-module _ {s : List ℕ} {at sectionType size : ℕ} (l : Lies s at sectionType size) (other : sectionType ≡ compression → ⊥)
-    {p offset : ℕ} (read : offset ≡ le 2 s p) (op : p ≡ at + 20) where
-  is-other : eqb (typeAt s at) compression ≡ false
-  is-other = ne-eqb (typeAt s at) compression (rw (l .typed) at other)
+-- attribute bit 0 is that of the lower byte
+pub lower-bit : (s : List ℕ) (fields : ℕ) → attributes s fields % 2 ≡ getD s (fields + 18) 0 % 2
+unfolding le
+lower-bit s fields = omega arith
 
-  the-offset : offset ≡ dataOffset s at
-  the-offset = rw op at read
+-- the GUID-defined section's own tests, over the data offset and the attributes that were read
+module _ (s : List ℕ) (at t h z : ℕ) (holds : isHolder (typeInfo t .class) ≡ true) (other : t ≡ compression → ⊥) {offset : ℕ} (read : offset ≡ dataOffset s (at + h)) where
+  is-other : eqb t compression ≡ false
+  is-other = ne-eqb t compression other
 
-  pub guid-204-low : offset < 24 → Fault 204 ≡ headAt s at
+  pub guid-204-low : offset < grown h 24 → Fault 204 ≡ holderOf s at t h z
   unfolding wrongContents
-  guid-204-low h = holder-204 l (rw (is-other, lt-ltb (dataOffset s at) 24 (rw the-offset at h)))
+  guid-204-low w = holder-204 _ _ _ _ _ holds (rw (is-other, lt-ltb (dataOffset s (at + h)) (grown h 24) (rw read at w)))
 
-  module _ (low : 24 ≤ offset) where
-    pub guid-204-high : size < offset → Fault 204 ≡ headAt s at
+  module _ (low : grown h 24 ≤ offset) where
+    is-low : ltb (dataOffset s (at + h)) (grown h 24) ≡ false
+    is-low = le-ltb _ _ (rw read at low)
+
+    pub guid-204-high : z < offset → Fault 204 ≡ holderOf s at t h z
     unfolding wrongContents
-    guid-204-high h =
-        holder-204 l
-        (rw (is-other, le-ltb (dataOffset s at) 24 (rw the-offset at low), lt-ltb (sizeAt s at) (dataOffset s at) (rw (l .sized, the-offset) at h)))
+    guid-204-high w = holder-204 _ _ _ _ _ holds (rw (is-other, is-low, lt-ltb z (dataOffset s (at + h)) (rw read at w)))
 
-    module _ (high : offset ≤ size) {q a : ℕ} (told : a ≡ le 2 s q) (place : q ≡ at + 22) where
-      the-attributes : a ≡ attributes s at
-      the-attributes = rw place at told
-
-      guid-right : wrongContents s at ≡ false
+    module _ (high : offset ≤ z) where
+      guid-right : wrongContents s at t h z ≡ false
       unfolding wrongContents
-      guid-right =
-          rw (
-            is-other,
-            le-ltb (dataOffset s at) 24 (rw the-offset at low),
-            le-ltb (sizeAt s at) (dataOffset s at) (rw (l .sized, the-offset) at high),
-          )
+      guid-right = rw (is-other, is-low, le-ltb z (dataOffset s (at + h)) (rw read at high))
 
-      pub guid-packed : {first end : ℕ} → a % 2 ≡ 1 → first ≡ firstAt at → end ≡ at + size → Closed sectionType first end ≡ headAt s at
+      pub guid-packed : {first end : ℕ} → attributes s (at + h) % 2 ≡ 1 → first ≡ at + h → end ≡ at + z → Closed t first end ≡ holderOf s at t h z
       unfolding packed
-      guid-packed h fe ee = holder-closed l fe ee guid-right (rw (is-other, eq-eqb (attributes s at % 2) 1 (rw the-attributes at h)))
+      guid-packed w fe ee = holder-closed _ _ _ _ _ holds fe ee guid-right (rw (is-other, eq-eqb (attributes s (at + h) % 2) 1 w))
 
-      pub guid-open : {first from end : ℕ} → (a % 2 ≡ 1 → ⊥) → first ≡ firstAt at → from ≡ at + offset → end ≡ at + size
-          → Open sectionType first from end ≡ headAt s at
+      pub guid-open : {first from end : ℕ} → (attributes s (at + h) % 2 ≡ 1 → ⊥) → first ≡ at + h → from ≡ at + offset → end ≡ at + z
+          → Open t first from end ≡ holderOf s at t h z
       unfolding packed contentsAt
-      guid-open h fe c ee =
-          holder-open l fe ee (rw (is-other, c, the-offset)) guid-right (rw (is-other, ne-eqb (attributes s at % 2) 1 (rw the-attributes at h)))
+      guid-open w fe c ee = holder-open _ _ _ _ _ holds fe ee guid-right (rw (is-other, c, read)) (rw (is-other, ne-eqb (attributes s (at + h) % 2) 1 w))

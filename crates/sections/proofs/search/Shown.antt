@@ -13,22 +13,11 @@ use lib.ListN.{length, getElem?}
 use Rattle.common.specs.Answers.{refused, success, numberOf}
 use Rattle.common.specs.Refusals.{unlessRefused}
 use Rattle.sections.specs.Walk.{Trace, done, fault, section, walk, streamLimit, streamWalk}
-use Rattle.sections.specs.Seek.{run, seekAnswer}
+use Rattle.sections.specs.Seek.{Seek, run, carried}
 use Rattle.sections.specs.Search.{Section, sections, firstFault, ofType, partAnswer, searchOf, WellFormed, countOf}
-use Rattle.sections.specs.declared.walk.Seek.{Seek}
-use Rattle.sections.specs.declared.walk.Seek.the-variants.{Left}
-use Rattle.sections.proofs.walk.Carried.{run-answer}
+use Rattle.sections.specs.declared.header.Mode.{Mode}
+use Rattle.sections.proofs.walk.Carried.{seekAnswer, words-start, run-answer}
 use Rattle.sections.proofs.walk.Inside.{Inside, inside-walk}
-
--- the code's answer
-pub search-206 : (s : List ℕ) (t instance : ℕ) → streamLimit < length s → searchOf s t instance ≡ refused 206
-unfolding searchOf streamWalk firstFault
-search-206 s t instance h = rw (lt-ltb streamLimit (length s) h)
-
-pub search-walk : (s : List ℕ) (t instance : ℕ) {below base : ℕ} {a : Seek} → a ≡ run t (Left instance) (walk below s base)
-    → below ≡ 7 → base ≡ 0 → length s ≤ streamLimit → seekAnswer a ≡ searchOf s t instance
-unfolding searchOf streamWalk
-search-walk s t instance walked l b h = rw (walked, l, b, le-ltb streamLimit (length s) h) (run-answer t instance (walk 7 s 0))
 
 -- a section of a type on the walk lies where the walk does
 inside-nth : (low high w i : ℕ) (t : Trace) (x : Section) → Inside low high t → getElem? (ofType w (sections t)) i ≡ some x
@@ -55,24 +44,6 @@ shown-part (some n) x f e p = let z : _≡_ {A = ℕ} 0 1 = cc in absurd (omega 
 shown-part none none f e p = let z : _≡_ {A = ℕ} 0 1 = cc in absurd (omega arith)
 shown-part none (some y) f e p = (y, refl, refl, cc, cc)
 
--- the walk through a whole stream, by the test of 206
-abbrev limited : Bool → List ℕ → Trace
-limited b s = cond b (fault 206) (walk 7 s 0)
-
--- a part that is shown lies inside the stream
-pub part-inside : (s : List ℕ) (t instance f e : ℕ) → searchOf s t instance ≡ success (f ∷ e ∷ []) → (f ≤ e) × (e ≤ length s)
-unfolding searchOf streamWalk firstFault
-part-inside s t instance f e p = go (ltb streamLimit (length s)) p
-  where
-    go : (b : Bool)
-        → unlessRefused refused (firstFault (limited b s)) (partAnswer (getElem? (ofType t (sections (limited b s))) instance)) ≡ success (f ∷ e ∷ [])
-        → (f ≤ e) × (e ≤ length s)
-    go true q = let z : _≡_ {A = ℕ} 0 1 = cc in absurd (omega arith)
-    go false q =
-        let y = shown-part (firstFault (walk 7 s 0)) (getElem? (ofType t (sections (walk 7 s 0))) instance) f e q in
-        let w = inside-nth 0 (0 + length s) t instance (walk 7 s 0) (y .0) (inside-walk 7 s 0) (y .2) in
-        (omega (arith, w .1, y .3, y .4), omega (arith, w .2, y .4))
-
 -- what stands at a place of a list, by its length
 nth-below : (l : List Section) (i : ℕ) → i < length l → (x : Section) × (getElem? l i ≡ some x)
 nth-below [] i h = absurd (omega arith)
@@ -84,31 +55,61 @@ nth-past [] i h = refl
 nth-past (x ∷ l) zero h = absurd (omega arith)
 nth-past (x ∷ l) (suc i) h = nth-past l i (omega arith)
 
-module _ (s : List ℕ) (t instance : ℕ) where
-  -- the first fault of the whole tree is answered
-  pub search-fault : {n : ℕ} → firstFault (streamWalk s) ≡ some n → searchOf s t instance ≡ refused n
-  unfolding searchOf
-  search-fault p = rw p
+module _ (mode : Mode) where
+  -- the code's answer
+  pub search-206 : (s : List ℕ) (t instance : ℕ) → streamLimit mode < length s → searchOf mode s t instance ≡ refused 206
+  unfolding searchOf streamWalk firstFault
+  search-206 s t instance h = rw (lt-ltb (streamLimit mode) (length s) h)
 
-  module _ (well : WellFormed s) where
-    pub search-missing : countOf t s ≤ instance → searchOf s t instance ≡ refused 14
+  pub search-walk : (s : List ℕ) (t instance : ℕ) {below base : ℕ} {a : Seek} → a ≡ run t (carried 0 (instance ∷ 0 ∷ 0 ∷ [])) (walk mode below s base)
+      → below ≡ 7 → base ≡ 0 → length s ≤ streamLimit mode → seekAnswer a ≡ searchOf mode s t instance
+  unfolding searchOf streamWalk
+  search-walk s t instance walked l b h =
+      rw (walked, words-start instance, l, b, le-ltb (streamLimit mode) (length s) h) (run-answer t instance (walk mode 7 s 0))
+
+  -- the walk through a whole stream, by the test of 206
+  abbrev limited : Bool → List ℕ → Trace
+  limited b s = cond b (fault 206) (walk mode 7 s 0)
+
+  -- a part that is shown lies inside the stream
+  pub part-inside : (s : List ℕ) (t instance f e : ℕ) → searchOf mode s t instance ≡ success (f ∷ e ∷ []) → (f ≤ e) × (e ≤ length s)
+  unfolding searchOf streamWalk firstFault
+  part-inside s t instance f e p = go (ltb (streamLimit mode) (length s)) p
+    where
+      go : (b : Bool)
+          → unlessRefused refused (firstFault (limited b s)) (partAnswer (getElem? (ofType t (sections (limited b s))) instance)) ≡ success (f ∷ e ∷ [])
+          → (f ≤ e) × (e ≤ length s)
+      go true q = let z : _≡_ {A = ℕ} 0 1 = cc in absurd (omega arith)
+      go false q =
+          let y = shown-part (firstFault (walk mode 7 s 0)) (getElem? (ofType t (sections (walk mode 7 s 0))) instance) f e q in
+          let w = inside-nth 0 (0 + length s) t instance (walk mode 7 s 0) (y .0) (inside-walk mode 7 s 0) (y .2) in
+          (omega (arith, w .1, y .3, y .4), omega (arith, w .2, y .4))
+
+  module _ (s : List ℕ) (t instance : ℕ) where
+    -- the first fault of the whole tree is answered
+    pub search-fault : {n : ℕ} → firstFault (streamWalk mode s) ≡ some n → searchOf mode s t instance ≡ refused n
     unfolding searchOf
-    search-missing h = rw (well, nth-past (ofType t (sections (streamWalk s))) instance h)
+    search-fault p = rw p
 
-    pub search-found : instance < countOf t s → (f : ℕ) × (e : ℕ) × (searchOf s t instance ≡ success (f ∷ e ∷ []))
-    unfolding searchOf
-    search-found h =
-        let x = nth-below (ofType t (sections (streamWalk s))) instance h in
-        (x .0 .first, x .0 .end, rw (well, x .1))
+    module _ (well : WellFormed mode s) where
+      pub search-missing : countOf mode t s ≤ instance → searchOf mode s t instance ≡ refused 14
+      unfolding searchOf
+      search-missing h = rw (well, nth-past (ofType t (sections (streamWalk mode s))) instance h)
 
-    -- on a well-formed stream an instance of a type is found exactly when it is below the number of sections of that type on
-    -- the walk
-    pub found-exactly : (numberOf (searchOf s t instance) ≡ 0) ↔ (instance < countOf t s)
-    unfolding numberOf
-    found-exactly = (λ p. go (ltb instance (countOf t s)) refl p, λ h. rw (search-found h .2))
-      where
-        go : (b : Bool) → ltb instance (countOf t s) ≡ b → numberOf (searchOf s t instance) ≡ 0 → instance < countOf t s
-        go true e p = ltb-true instance (countOf t s) e
-        go false e p =
-            let q : _≡_ {A = ℕ} 14 0 = rw (search-missing (ltb-false instance (countOf t s) e)) at p in
-            absurd (omega arith)
+      pub search-found : instance < countOf mode t s → (f : ℕ) × (e : ℕ) × (searchOf mode s t instance ≡ success (f ∷ e ∷ []))
+      unfolding searchOf
+      search-found h =
+          let x = nth-below (ofType t (sections (streamWalk mode s))) instance h in
+          (x .0 .first, x .0 .end, rw (well, x .1))
+
+      -- on a well-formed stream an instance of a type is found exactly when it is below the number of sections of that type on
+      -- the walk
+      pub found-exactly : (numberOf (searchOf mode s t instance) ≡ 0) ↔ (instance < countOf mode t s)
+      unfolding numberOf
+      found-exactly = (λ p. go (ltb instance (countOf mode t s)) refl p, λ h. rw (search-found h .2))
+        where
+          go : (b : Bool) → ltb instance (countOf mode t s) ≡ b → numberOf (searchOf mode s t instance) ≡ 0 → instance < countOf mode t s
+          go true e p = ltb-true instance (countOf mode t s) e
+          go false e p =
+              let q : _≡_ {A = ℕ} 14 0 = rw (search-missing (ltb-false instance (countOf mode t s) e)) at p in
+              absurd (omega arith)

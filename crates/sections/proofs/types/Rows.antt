@@ -88,7 +88,7 @@ among P (r ∷ rows) t h = go (eqb t (r .number)) (both (P (r .info)) (every P r
     go true p q = p
     go false p q = q
 
--- every section has its first 4 bytes, and no type's own header is longer than 24
+-- every least size, with a header of 4 bytes, is 4 to 24
 pub least-range : (t : ℕ) → (4 ≤ typeInfo t .least) × (typeInfo t .least ≤ 24)
 unfolding typeInfo
 least-range t =
@@ -112,3 +112,22 @@ not-true true p = let z : _≡_ {A = ℕ} 0 1 = cc in absurd (omega arith)
 pub not-holder : (t : ℕ) → eqb t compression ≡ false → eqb t guidDefined ≡ false → isHolder (typeInfo t .class) ≡ false
 unfolding typeInfo infoAmong
 not-holder t a b = rw (a, b) (not-true _ (among (λ i. not (isHolder (i .class))) (drop 2 types) t refl))
+
+-- a holder that is no compression section is a GUID-defined one
+pub holder-guid : (t : ℕ) → isHolder (typeInfo t .class) ≡ true → eqb t compression ≡ false → t ≡ guidDefined
+holder-guid t holds x = go (eqb t guidDefined) refl
+  where
+    go : (b : Bool) → eqb t guidDefined ≡ b → t ≡ guidDefined
+    go true y = eqb-true _ _ y
+    go false y =
+        let n = not-holder t x y in
+        let z : _≡_ {A = ℕ} 0 1 = cc in absurd (omega arith)
+
+-- the two holders are holders
+pub holds-compression : (t : ℕ) → t ≡ compression → isHolder (typeInfo t .class) ≡ true
+unfolding typeInfo infoAmong
+holds-compression t e = ap (λ (x : ℕ). isHolder (typeInfo x .class)) e
+
+pub holds-guid : (t : ℕ) → t ≡ guidDefined → isHolder (typeInfo t .class) ≡ true
+unfolding typeInfo infoAmong
+holds-guid t e = ap (λ (x : ℕ). isHolder (typeInfo x .class)) e

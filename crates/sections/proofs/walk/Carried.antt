@@ -1,35 +1,92 @@
 -- Laws of what the code of the walk carries along: what a section does to it, a refusal stays to the end, two walks in a row are run one after the other,
 -- and what is carried to the end of a walk answers the search.
-use Prim.Native.Nat.{ℕ, zero, suc, _-_}
-use mathlib.Core.Path.{_≡_, refl, sym}
-use mathlib.Core.Bool.{Bool, true, false}
+use Prim.Native.Nat.{ℕ, zero, suc, _-_, _<_}
+use mathlib.Core.Path.{_≡_, refl, sym, _∙_}
+use mathlib.Core.Bool.{Bool, true, false, cond}
 use mathlib.Core.Option.{some}
 use native.Mathlib.Omega.{arith}
+use mathlib.Core.List.{List, [], _∷_}
 use borrow.Author.Tests.{eq-eqb, ne-eqb}
 use lib.Dec.{eqb}
-use lib.ListN.{getElem?}
-use Rattle.common.specs.Answers.{Answer, refused}
+use lib.ListN.{length, getD, set, length-set, getElem?}
+use lib.Seq.{getD-set-same, getD-set-other}
+use Rattle.common.specs.Answers.{Answer, refused, success}
 use Rattle.common.specs.Refusals.{unlessRefused}
 use Rattle.sections.specs.Walk.{Trace, done, fault, section, andThen}
-use Rattle.sections.specs.Seek.{visited, halted, run, seekAnswer}
+use Rattle.sections.specs.Seek.{Seek, Refused, Left, Met, visited, halted, run, carried}
 use Rattle.sections.specs.Search.{sections, firstFault, ofType, partAnswer}
-use Rattle.sections.specs.declared.walk.Seek.{Seek}
-use Rattle.sections.specs.declared.walk.Seek.the-variants.{Refused, Left, Met}
 
--- at a section, while i of the type wanted are still to be passed: one of another type, the one wanted, and one before it
-module _ (w t f e : ℕ) {a : Seek} {i : ℕ} (left : a ≡ Left i) where
-  pub visit-other : (t ≡ w → ⊥) → Left i ≡ visited w a t f e
-  unfolding visited
-  visit-other h = rw (left, ne-eqb t w h)
+-- the search's answer at the end of the walk
+unfoldable pub seekAnswer : Seek → Answer
+seekAnswer (Refused n) = refused n
+seekAnswer (Left i) = refused 14
+seekAnswer (Met f e) = success (f ∷ e ∷ [])
 
-  pub visit-met : t ≡ w → i ≡ 0 → Met f e ≡ visited w a t f e
-  unfolding visited
-  visit-met h z = rw (left, eq-eqb t w h, eq-eqb i 0 z)
+-- a section of another type leaves what is carried as it is
+visit-other : (w t f e : ℕ) (a : Seek) → (t ≡ w → ⊥) → visited w a t f e ≡ a
+unfolding visited
+visit-other w t f e (Refused n) h = refl
+visit-other w t f e (Left i) h = rw (ne-eqb t w h)
+visit-other w t f e (Met x y) h = refl
 
-  pub visit-next : {j : ℕ} → t ≡ w → (i ≡ 0 → ⊥) → j ≡ i - 1 → Left j ≡ visited w a t f e
-  unfolding visited
-  visit-next h z n = rw (left, eq-eqb t w h, ne-eqb i 0 z, n)
+-- how the code holds a fault
+pub carried-refused : (n : ℕ) (l : List ℕ) → (n ≡ 0 → ⊥) → carried n l ≡ Refused n
+unfolding carried
+carried-refused n l h = rw (ne-eqb n 0 h)
 
+pub carried-fault : (n : ℕ) (l : List ℕ) → (n ≡ 0 → ⊥) → carried n l ≡ halted n (carried 0 l)
+unfolding carried halted
+carried-fault n l h = rw (ne-eqb n 0 h) (go (eqb (getD l 2 0) 0))
+  where
+    go : (b : Bool) → Refused n ≡ halted n (cond b (Left (getD l 0 0)) (Met (getD l 1 0) (getD l 2 0)))
+    go true = refl
+    go false = refl
+
+-- what the code holds at the start, and what it answers at the end
+pub words-start : (i : ℕ) → carried 0 (i ∷ 0 ∷ 0 ∷ []) ≡ Left i
+unfolding carried
+words-start i = refl
+
+pub answer-fault : (n : ℕ) (l : List ℕ) → (n ≡ 0 → ⊥) → refused n ≡ seekAnswer (carried n l)
+unfolding carried seekAnswer
+answer-fault n l h = rw (ne-eqb n 0 h)
+
+module _ (n : ℕ) (l : List ℕ) (good : n ≡ 0) where
+  pub answer-14 : getD l 2 0 ≡ 0 → refused 14 ≡ seekAnswer (carried n l)
+  unfolding carried seekAnswer
+  answer-14 h = rw (good, h)
+
+  pub answer-part : {f e : ℕ} → (e ≡ 0 → ⊥) → f ≡ getD l 1 0 → e ≡ getD l 2 0 → success (f ∷ e ∷ []) ≡ seekAnswer (carried n l)
+  unfolding carried seekAnswer
+  answer-part h p q = rw (good, ← p, ← q, ne-eqb _ 0 h)
+
+-- and the three words: at a section of another type, after the section wanted, at the section wanted, and at one before it
+module _ (w t f e : ℕ) (l : List ℕ) where
+  pub words-other : (t ≡ w → ⊥) → carried 0 l ≡ visited w (carried 0 l) t f e
+  words-other h = sym (visit-other w t f e (carried 0 l) h)
+
+  pub words-after : (getD l 2 0 ≡ 0 → ⊥) → carried 0 l ≡ visited w (carried 0 l) t f e
+  unfolding carried visited
+  words-after h = rw (ne-eqb (getD l 2 0) 0 h)
+
+  module _ (typed : t ≡ w) (unmet : getD l 2 0 ≡ 0) (three : length l ≡ 3) where
+    pub words-met : getD l 0 0 ≡ 0 → 0 < e → carried 0 (set (set l 1 f) 2 e) ≡ visited w (carried 0 l) t f e
+    unfolding carried visited
+    words-met none-left ended =
+        let n : length (set l 1 f) ≡ 3 = length-set l 1 f ∙ three in
+        let last : getD (set (set l 1 f) 2 e) 2 0 ≡ e = getD-set-same (set l 1 f) 2 e 0 (omega arith) in
+        let middle : getD (set (set l 1 f) 2 e) 1 0 ≡ f =
+        getD-set-other (set l 1 f) 2 1 e 0 (λ z. omega arith) ∙ getD-set-same l 1 f 0 (omega arith) in
+        rw (last, middle, unmet, none-left, eq-eqb t w typed, ne-eqb e 0 (λ z. omega arith))
+
+    pub words-passed : {rest : ℕ} → (getD l 0 0 ≡ 0 → ⊥) → rest ≡ getD l 0 0 - 1 → carried 0 (set l 0 rest) ≡ visited w (carried 0 l) t f e
+    unfolding carried visited
+    words-passed {rest} some-left less =
+        let last : getD (set l 0 rest) 2 0 ≡ 0 = getD-set-other l 0 2 rest 0 (λ z. omega arith) ∙ unmet in
+        let front : getD (set l 0 rest) 0 0 ≡ rest = getD-set-same l 0 rest 0 (omega arith) in
+        rw (last, front, unmet, eq-eqb t w typed, ne-eqb (getD l 0 0) 0 some-left, less)
+
+-- a refusal stays to the end; and two walks in a row
 pub run-refused : (w n : ℕ) (x : Trace) → run w (Refused n) x ≡ Refused n
 unfolding run halted visited
 run-refused w n done = refl

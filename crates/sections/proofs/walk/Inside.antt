@@ -10,6 +10,7 @@ use Rattle.sections.specs.Header.{headAt}
 use Rattle.sections.specs.Walk.{Trace, done, fault, section, andThen, aligned, zeros, part, afterPadding, meet, siblings, walk}
 use Rattle.sections.specs.declared.header.Head.{Head}
 use Rattle.sections.specs.declared.header.Head.the-variants.{Fault, Closed, Open}
+use Rattle.sections.specs.declared.header.Mode.{Mode}
 use Rattle.sections.proofs.header.Extent.{closed-within, open-within}
 
 -- every section of a trace lies between two places
@@ -39,44 +40,45 @@ inside-padding low high s e rest p = go (zeros s e (aligned e - e))
     go true = p
     go false = tt
 
-module _ (n : ℕ) (inner : List ℕ → ℕ → Trace) (below : (l : List ℕ) (b : ℕ) → Inside b (b + length l) (inner l b)) (s : List ℕ) (base : ℕ) where
-  inside-meet : (at : ℕ) (rest : ℕ → Trace) (h : Head) → headAt s at ≡ h → ((next : ℕ) → Inside base (base + length s) (rest next))
-      → Inside base (base + length s) (meet n inner s base h rest)
-  unfolding meet
-  inside-meet at rest (Fault m) p q = tt
-  inside-meet at rest (Closed t first e) p q =
-      let w = closed-within s at p in
-      (omega arith, omega arith, omega arith, inside-padding base (base + length s) s e rest (q (aligned e)))
-  inside-meet at rest (Open t first f e) p q = go (eqb n 0)
-    where
-      go : (b : Bool) → Inside base (base + length s)
-          (cond b (fault 205) (section t (base + first) (base + e) (andThen (inner (part f e s) (base + f)) (afterPadding s e rest))))
-      go true = tt
-      go false =
-          let w = open-within s at p in
-          let l : length (part f e s) ≤ e - f = simp length-take (omega arith) in (
-            omega arith,
-            omega arith,
-            omega arith,
-            inside-then base (base + length s) (inner (part f e s) (base + f)) (afterPadding s e rest)
-                (inside-wider (base + f) (base + f + length (part f e s)) base (base + length s) (inner (part f e s) (base + f)) (omega arith) (omega arith)
-                (below (part f e s) (base + f)))
-                (inside-padding base (base + length s) s e rest (q (aligned e))),
-          )
+module _ (mode : Mode) where
+  module _ (n : ℕ) (inner : List ℕ → ℕ → Trace) (below : (l : List ℕ) (b : ℕ) → Inside b (b + length l) (inner l b)) (s : List ℕ) (base : ℕ) where
+    inside-meet : (at : ℕ) (rest : ℕ → Trace) (h : Head) → headAt mode s at ≡ h → ((next : ℕ) → Inside base (base + length s) (rest next))
+        → Inside base (base + length s) (meet n inner s base h rest)
+    unfolding meet
+    inside-meet at rest (Fault m) p q = tt
+    inside-meet at rest (Closed t first e) p q =
+        let w = closed-within mode s at p in
+        (omega arith, omega arith, omega arith, inside-padding base (base + length s) s e rest (q (aligned e)))
+    inside-meet at rest (Open t first f e) p q = go (eqb n 0)
+      where
+        go : (b : Bool) → Inside base (base + length s)
+            (cond b (fault 205) (section t (base + first) (base + e) (andThen (inner (part f e s) (base + f)) (afterPadding s e rest))))
+        go true = tt
+        go false =
+            let w = open-within mode s at p in
+            let l : length (part f e s) ≤ e - f = simp length-take (omega arith) in (
+              omega arith,
+              omega arith,
+              omega arith,
+              inside-then base (base + length s) (inner (part f e s) (base + f)) (afterPadding s e rest)
+                  (inside-wider (base + f) (base + f + length (part f e s)) base (base + length s) (inner (part f e s) (base + f)) (omega arith) (omega arith)
+                  (below (part f e s) (base + f)))
+                  (inside-padding base (base + length s) s e rest (q (aligned e))),
+            )
 
-  inside-siblings : (fuel at : ℕ) → Inside base (base + length s) (siblings n inner fuel s base at)
-  unfolding siblings
-  inside-siblings zero at = tt
-  inside-siblings (suc fuel) at =
-      go (ltb at (length s)) (inside-meet at (siblings n inner fuel s base) (headAt s at) refl (inside-siblings fuel))
-    where
-      go : (b : Bool) → Inside base (base + length s) (meet n inner s base (headAt s at) (siblings n inner fuel s base))
-          → Inside base (base + length s) (cond b (meet n inner s base (headAt s at) (siblings n inner fuel s base)) done)
-      go true p = p
-      go false p = tt
+    inside-siblings : (fuel at : ℕ) → Inside base (base + length s) (siblings mode n inner fuel s base at)
+    unfolding siblings
+    inside-siblings zero at = tt
+    inside-siblings (suc fuel) at =
+        go (ltb at (length s)) (inside-meet at (siblings mode n inner fuel s base) (headAt mode s at) refl (inside-siblings fuel))
+      where
+        go : (b : Bool) → Inside base (base + length s) (meet n inner s base (headAt mode s at) (siblings mode n inner fuel s base))
+            → Inside base (base + length s) (cond b (meet n inner s base (headAt mode s at) (siblings mode n inner fuel s base)) done)
+        go true p = p
+        go false p = tt
 
--- every section that the walk meets lies inside its stream
-pub inside-walk : (n : ℕ) (s : List ℕ) (base : ℕ) → Inside base (base + length s) (walk n s base)
-unfolding walk
-inside-walk zero s base = inside-siblings 0 (λ l b. done) (λ l b. tt) s base (length s) 0
-inside-walk (suc n) s base = inside-siblings (suc n) (walk n) (inside-walk n) s base (length s) 0
+  -- every section that the walk meets lies inside its stream
+  pub inside-walk : (n : ℕ) (s : List ℕ) (base : ℕ) → Inside base (base + length s) (walk mode n s base)
+  unfolding walk
+  inside-walk zero s base = inside-siblings 0 (λ l b. done) (λ l b. tt) s base (length s) 0
+  inside-walk (suc n) s base = inside-siblings (suc n) (walk mode n) (inside-walk n) s base (length s) 0

@@ -7,72 +7,72 @@ use native.Mathlib.Omega.{arith}
 use lib.ListN.{length}
 use Rattle.sections.specs.Header.{headAt}
 use Rattle.sections.specs.Walk.{aligned, zeros, part, afterPadding, walk}
-use Rattle.sections.specs.Seek.{visited, halted, run}
+use Rattle.sections.specs.Seek.{Seek, Refused, visited, halted, run}
 use Rattle.sections.specs.declared.header.Head.the-variants.{Fault, Closed, Open}
-use Rattle.sections.specs.declared.walk.Seek.{Seek}
-use Rattle.sections.specs.declared.walk.Seek.the-variants.{Refused}
+use Rattle.sections.specs.declared.header.Mode.{Mode}
 use Rattle.sections.proofs.walk.Carried.{run-refused, run-then}
 use Rattle.sections.proofs.walk.Padding.{padding-zero, padding-207}
 use Rattle.sections.proofs.walk.Starts.{walkFrom, walk-from-start, walk-end, walk-fault, walk-closed, walk-205, walk-open}
 
--- the loop over one stream, at a start: the walk from here on gives the whole result x
-pub record Going (n : ℕ) (s : List ℕ) (base w : ℕ) (x a : Seek) (at : ℕ) : Type 0 where
-  pub same : x ≡ run w a (walkFrom n s base at)
+module _ (mode : Mode) where
+  -- the loop over one stream, at a start: the walk from here on gives the whole result x
+  pub record Going (n : ℕ) (s : List ℕ) (base w : ℕ) (x a : Seek) (at : ℕ) : Type 0 where
+    pub same : x ≡ run w a (walkFrom mode n s base at)
 
-pub going-start : (n : ℕ) (s : List ℕ) (base w : ℕ) (a : Seek) → Going n s base w (run w a (walk n s base)) a 0
-going-start n s base w a = record { same = ap (run w a) (walk-from-start n s base) }
+  pub going-start : (n : ℕ) (s : List ℕ) (base w : ℕ) (a : Seek) → Going n s base w (run w a (walk mode n s base)) a 0
+  going-start n s base w a = record { same = ap (run w a) (walk-from-start mode n s base) }
 
-module _ {n : ℕ} {s : List ℕ} {base w : ℕ} {x a : Seek} {at : ℕ} (g : Going n s base w x a at) where
-  pub going-end : length s ≤ at → a ≡ x
-  unfolding run
-  going-end h = sym (g .same ∙ ap (run w a) (walk-end n s base at h))
-
-  -- one turn, by what stands at the start
-  module _ (here : at < length s) where
-    pub turn-fault : {m : ℕ} {r : Seek} → headAt s at ≡ Fault m → r ≡ halted m a → r ≡ x
+  module _ {n : ℕ} {s : List ℕ} {base w : ℕ} {x a : Seek} {at : ℕ} (g : Going n s base w x a at) where
+    pub going-end : length s ≤ at → a ≡ x
     unfolding run
-    turn-fault h p = p ∙ sym (g .same ∙ ap (run w a) (walk-fault n s base at here h))
+    going-end h = sym (g .same ∙ ap (run w a) (walk-end mode n s base at h))
 
-    -- b: after the section itself
-    module _ {t first e shown end : ℕ} {b : Seek} (h : headAt s at ≡ Closed t first e) (v : b ≡ visited w a t shown end) (f : shown ≡ base + first)
-        (l : end ≡ base + e) {next : ℕ} (up : next ≡ aligned e) where
-      turn-closed-any : x ≡ run w b (afterPadding s e (walkFrom n s base))
+    -- one turn, by what stands at the start
+    module _ (here : at < length s) where
+      pub turn-fault : {m : ℕ} {r : Seek} → headAt mode s at ≡ Fault m → r ≡ halted m a → r ≡ x
       unfolding run
-      turn-closed-any = rw (v, f, l) (g .same ∙ ap (run w a) (walk-closed n s base at here h))
+      turn-fault h p = p ∙ sym (g .same ∙ ap (run w a) (walk-fault mode n s base at here h))
 
-      pub turn-closed : zeros s e (next - e) ≡ true → Going n s base w x b next
-      turn-closed z = record { same = rw up (rw (padding-zero s e (walkFrom n s base) (rw up at z)) at turn-closed-any) }
+      -- b: after the section itself
+      module _ {t first e shown end : ℕ} {b : Seek} (h : headAt mode s at ≡ Closed t first e) (v : b ≡ visited w a t shown end) (f : shown ≡ base + first)
+          (l : end ≡ base + e) {next : ℕ} (up : next ≡ aligned e) where
+        turn-closed-any : x ≡ run w b (afterPadding s e (walkFrom mode n s base))
+        unfolding run
+        turn-closed-any = rw (v, f, l) (g .same ∙ ap (run w a) (walk-closed mode n s base at here h))
 
-      pub turn-closed-207 : {r : Seek} → zeros s e (next - e) ≡ false → r ≡ halted 207 b → r ≡ x
+        pub turn-closed : zeros s e (next - e) ≡ true → Going n s base w x b next
+        turn-closed z = record { same = rw up (rw (padding-zero s e (walkFrom mode n s base) (rw up at z)) at turn-closed-any) }
+
+        pub turn-closed-207 : {r : Seek} → zeros s e (next - e) ≡ false → r ≡ halted 207 b → r ≡ x
+        unfolding run
+        turn-closed-207 z p = p ∙ sym (rw (padding-207 s e (walkFrom mode n s base) (rw up at z)) at turn-closed-any)
+
+      pub turn-205 : {t first f e : ℕ} {r : Seek} → headAt mode s at ≡ Open t first f e → n ≡ 0 → r ≡ halted 205 a → r ≡ x
       unfolding run
-      turn-closed-207 z p = p ∙ sym (rw (padding-207 s e (walkFrom n s base) (rw up at z)) at turn-closed-any)
+      turn-205 h z p = p ∙ sym (rw (z, walk-205 mode s base at here h) at (g .same))
 
-    pub turn-205 : {t first f e : ℕ} {r : Seek} → headAt s at ≡ Open t first f e → n ≡ 0 → r ≡ halted 205 a → r ≡ x
-    unfolding run
-    turn-205 h z p = p ∙ sym (rw (z, walk-205 s base at here h) at (g .same))
+      -- b: after the holder itself; d: after its children, run from b
+      module _ {t first f e shown end k inner : ℕ} {b d : Seek} (h : headAt mode s at ≡ Open t first f e) (deep : n ≡ 0 → ⊥) (v : b ≡ visited w a t shown end)
+          (fb : shown ≡ base + first) (l : end ≡ base + e) (children : d ≡ run w b (walk mode k (part f e s) inner)) (below : k ≡ n - 1) (ib : inner ≡ base + f) where
+        turn-open : x ≡ run w d (afterPadding s e (walkFrom mode n s base))
+        unfolding run
+        turn-open =
+            let above : suc (n - 1) ≡ n = omega arith in
+            let after = afterPadding s e (walkFrom mode n s base) in
+            let inside = walk mode (n - 1) (part f e s) (base + f) in
+            let met = visited w a t (base + first) (base + e) in
+            let same : d ≡ run w met inside = rw (v, below, ib, fb, l) at children in
+            g .same
+            ∙ ap (run w a) (rw above at (walk-open mode (n - 1) s base at here h))
+            ∙ run-then w met inside after
+            ∙ ap (λ (y : Seek). run w y after) (sym same)
 
-    -- b: after the holder itself; d: after its children, run from b
-    module _ {t first f e shown end k inner : ℕ} {b d : Seek} (h : headAt s at ≡ Open t first f e) (deep : n ≡ 0 → ⊥) (v : b ≡ visited w a t shown end)
-        (fb : shown ≡ base + first) (l : end ≡ base + e) (children : d ≡ run w b (walk k (part f e s) inner)) (below : k ≡ n - 1) (ib : inner ≡ base + f) where
-      turn-open : x ≡ run w d (afterPadding s e (walkFrom n s base))
-      unfolding run
-      turn-open =
-          let above : suc (n - 1) ≡ n = omega arith in
-          let after = afterPadding s e (walkFrom n s base) in
-          let inside = walk (n - 1) (part f e s) (base + f) in
-          let met = visited w a t (base + first) (base + e) in
-          let same : d ≡ run w met inside = rw (v, below, ib, fb, l) at children in
-          g .same
-          ∙ ap (run w a) (rw above at (walk-open (n - 1) s base at here h))
-          ∙ run-then w met inside after
-          ∙ ap (λ (y : Seek). run w y after) (sym same)
+        pub turn-children : {m : ℕ} → d ≡ Refused m → Refused m ≡ x
+        turn-children r = sym (rw (r, run-refused) at turn-open)
 
-      pub turn-children : {m : ℕ} → d ≡ Refused m → Refused m ≡ x
-      turn-children r = sym (rw (r, run-refused) at turn-open)
+        pub turn-open-next : {next : ℕ} → next ≡ aligned e → zeros s e (next - e) ≡ true → Going n s base w x d next
+        turn-open-next up z = record { same = rw up (rw (padding-zero s e (walkFrom mode n s base) (rw up at z)) at turn-open) }
 
-      pub turn-open-next : {next : ℕ} → next ≡ aligned e → zeros s e (next - e) ≡ true → Going n s base w x d next
-      turn-open-next up z = record { same = rw up (rw (padding-zero s e (walkFrom n s base) (rw up at z)) at turn-open) }
-
-      pub turn-open-207 : {next : ℕ} {r : Seek} → next ≡ aligned e → zeros s e (next - e) ≡ false → r ≡ halted 207 d → r ≡ x
-      unfolding run
-      turn-open-207 up z p = p ∙ sym (rw (padding-207 s e (walkFrom n s base) (rw up at z)) at turn-open)
+        pub turn-open-207 : {next : ℕ} {r : Seek} → next ≡ aligned e → zeros s e (next - e) ≡ false → r ≡ halted 207 d → r ≡ x
+        unfolding run
+        turn-open-207 up z p = p ∙ sym (rw (padding-207 s e (walkFrom mode n s base) (rw up at z)) at turn-open)

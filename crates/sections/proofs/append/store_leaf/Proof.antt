@@ -1,17 +1,14 @@
--- `store_leaf` meets its contract: four runs of stores, one after another, are one.
+-- `store_leaf` meets its contract: three runs of stores, one after another, are one.
 use Prim.Native.Nat.{_+_, _-_}
 use borrow.Author.Needs.{needs}
 use denote.Ref.{now}
 use lib.ListN.{length}
-use Rattle.sections.proofs.append.Stores.{leaf-stored}
+use Rattle.sections.proofs.append.Stores.{either-least, leaf-stored}
 use Rattle.sections.proofs.append.store_leaf.Statement.{statement}
 use Rattle.sections.proofs.append.store_leaf.Tie as tie
 
 aligned-requires : tie.Need-aligned-requires
 aligned-requires c κs = search needs
-
-add-size : tie.Need-add-size
-add-size c = search needs
 
 sub-store : tie.Need-sub-store
 sub-store c = search needs
@@ -19,14 +16,8 @@ sub-store c = search needs
 store-requires : tie.Need-store-requires
 store-requires c κs = search needs
 
-store-requires-2 : tie.Need-store-requires-2
-store-requires-2 c κs = search needs
-
-add-store : tie.Need-add-store
-add-store c = search needs
-
-store-requires-3 : tie.Need-store-requires-3
-store-requires-3 c κs = search needs
+store-header-requires : tie.Need-store-header-requires
+store-header-requires c κs = let entry = c .before .before .before .before .before .before .before .before in (either-least (entry .pre .0), search needs)
 
 add-from : tie.Need-add-from
 add-from c = search needs
@@ -52,28 +43,22 @@ same-length c = search needs
 returns : tie.Need-returns
 returns c =
     let copied = c .before .before in
-    let typed = copied .before .before .before .before in
-    let sized = typed .before .before .before .before in
-    let padded = sized .before .before .before .before in
+    let headed = copied .before .before .before .before in
+    let padded = headed .before .before .before .before in
     let aligned = padded .before .before in
     let entry = aligned .before .before .before in
-    let from = aligned .aligned .result + 4 in
-    let end = aligned .aligned .result + (4 + length (now (entry .args .body))) in
-    leaf-stored _ _ _ _ _ _ _ _ _ _ _ _ from (end - from) (padded .store .ensures) (sized .store2 .ensures) (typed .store3 .ensures)
-    (copied .copy .ensures .1) (aligned .aligned .ensures) (search needs) (search needs) (search needs) (search needs) (search needs)
-    (search needs) (search needs)
+    let from = aligned .aligned .result + entry .args .header in
+    leaf-stored _ _ _ _ _ _ _ _ _ _ from (from + length (now (entry .args .body)) - from) (entry .pre .0) (padded .store .ensures)
+    (headed .store-header .ensures) (copied .copy .ensures .1) (aligned .aligned .ensures) (search needs) (search needs) (search needs) (search needs)
 
 pub store-leaf-spec : {M : Type 1} → statement M
 store-leaf-spec =
     tie.close
     (tie.spec
     aligned-requires
-    add-size
     sub-store
     store-requires
-    store-requires-2
-    add-store
-    store-requires-3
+    store-header-requires
     add-from
     add-end
     sub-copy

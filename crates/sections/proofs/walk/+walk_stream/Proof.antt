@@ -2,18 +2,20 @@
 -- fall at each call, and what is left of the stream at each turn.
 --
 -- Places: `closed` and `opened` are where the header is known to be that of such a section, `turn` the top of the loop's body, `met`
--- after the visit of an opened section, `children` after the walk of its contents, `next` after its padding's end is known.
+-- after the visit of a section, `children` after the walk of an opened one's contents, `next` after its padding's end is known.
 use Prim.Native.Nat.{_-_, ℕ, _<_}
-use mathlib.Core.Path.{sym, _∙_}
+use mathlib.Core.Path.{_≡_, sym, _∙_}
 use native.Mathlib.Omega.{arith}
 use borrow.Author.Needs.{needs}
 use borrow.Author.Tests.{not-true, not-false}
 use borrow.Fn.Kinds.{In}
 use borrow.Fn.PlainCycle.{Measures, is, falls, and}
 use lib.ListN.{length}
-use Rattle.sections.specs.Seek.{run}
+use Rattle.sections.specs.Seek.{run, carried}
 use Rattle.sections.specs.Walk.{walk}
+use Rattle.sections.proofs.header.Cases.{fault-number}
 use Rattle.sections.proofs.header.Extent.{closed-within, open-within}
+use Rattle.sections.proofs.walk.Carried.{carried-refused, carried-fault}
 use Rattle.sections.proofs.walk.Turns.{Going, going-start, going-end, turn-fault, turn-closed, turn-closed-207, turn-205, turn-children, turn-open-next, turn-open-207}
 use Rattle.sections.proofs.walk.+walk_stream.{statement}
 use Rattle.sections.proofs.walk.+walk_stream.Tie.{close}
@@ -22,27 +24,24 @@ use Rattle.sections.proofs.walk.walk_stream.Kinds as kinds
 use Rattle.sections.proofs.walk.+walk_stream.Lts-walk_stream as lts
 use Rattle.sections.proofs.header.read_head.Reads as read-head-reads
 use Rattle.sections.proofs.walk.aligned.Reads as aligned-reads
-use Rattle.sections.proofs.walk.halt.Reads as halt-reads
 use Rattle.sections.proofs.walk.visit.Reads as visit-reads
 use Rattle.sections.proofs.walk.zero_bytes.Reads as zero-bytes-reads
 
 -- the measure: the levels left below
-abbrev levels : Measures 1 kinds.ps ℕ
-levels κs a = a .1 .1 .0
+abbrev levels : Measures 2 kinds.ps ℕ
+levels κs a = a .1 .1 .1 .0
 
-abbrev At : ℕ → In 1 kinds.ps
-At t = and 1 kinds.ps (is 1 kinds.ps levels t) own.Pre
+abbrev At : ℕ → In 2 kinds.ps
+At t = and 2 kinds.ps (is 2 kinds.ps levels t) own.Pre
 
-abbrev Under : ℕ → In 1 kinds.ps
-Under t = and 1 kinds.ps (falls 1 kinds.ps _<_ levels t) own.Pre
+abbrev Under : ℕ → In 2 kinds.ps
+Under t = and 2 kinds.ps (falls 2 kinds.ps _<_ levels t) own.Pre
 
 -- what the calls ask and give
 abbrev R : ℕ → lts.Claims
 R t = (
   read-head-reads.Asked,
   read-head-reads.Learnt,
-  halt-reads.Asked,
-  halt-reads.Learnt,
   visit-reads.Asked,
   visit-reads.Learnt,
   aligned-reads.Asked,
@@ -54,13 +53,14 @@ R t = (
 )
 
 abbrev Inv : lts.InvT-loop
-Inv s base below want seek₀ at₀ seek at = Going below s base want (run want seek₀ (walk below s base)) seek at
+Inv mode s base below want seek₀ at₀ seek at =
+    (length seek ≡ 3) × Going mode below s base want (run want (carried 0 seek₀) (walk mode below s base)) (carried 0 seek) at
 
 abbrev μ : lts.MeasureT-loop
-μ s base below want seek₀ at₀ seek at = length s - at
+μ mode s base below want seek₀ at₀ seek at = length s - at
 
 loop-holds : (t : ℕ) → lts.Need-loop-holds (R t) (At t) own.Post Inv μ
-loop-holds t c = going-start _ _ _ _ _
+loop-holds t c = (c .before .pre .1 .1, going-start _ _ _ _ _ _)
 
 read-head-requires : (t : ℕ) → lts.Need-read-head-requires (R t) (At t) own.Post Inv μ
 read-head-requires t c κs = search needs
@@ -68,14 +68,14 @@ read-head-requires t c κs = search needs
 enum-known-head : (t : ℕ) → lts.Need-enum-known-head (R t) (At t) own.Post Inv μ
 enum-known-head t c = search needs
 
-halt-requires : (t : ℕ) → lts.Need-halt-requires (R t) (At t) own.Post Inv μ
-halt-requires t c κs = search needs
-
 returns : (t : ℕ) → lts.Need-returns (R t) (At t) own.Post Inv μ
 returns t c =
-    let fault = c .before .before in
+    let fault = c .before in
     let turn = fault .before .before .before in
-    turn-fault (turn .before .loop .inv) (search needs) (sym (fault .before .before .read-head .ensures) ∙ fault .head .given .1) (c .halt .ensures)
+    let head = sym (fault .before .before .read-head .ensures) ∙ fault .head .given .1 in (
+      turn .before .loop .inv .0,
+      turn-fault _ (turn .before .loop .inv .1) (search needs) head (carried-fault _ _ (fault-number _ _ _ _ head)),
+    )
 
 enum-known-head-2 : (t : ℕ) → lts.Need-enum-known-head-2 (R t) (At t) own.Post Inv μ
 enum-known-head-2 t c = search needs
@@ -83,22 +83,25 @@ enum-known-head-2 t c = search needs
 add-visit : (t : ℕ) → lts.Need-add-visit (R t) (At t) own.Post Inv μ
 add-visit t c =
     let closed = c .before in
-    let w = closed-within _ _ (sym (closed .before .before .read-head .ensures) ∙ closed .head2 .given .1) in
+    let w = closed-within _ _ _ (sym (closed .before .before .read-head .ensures) ∙ closed .head2 .given .1) in
     omega arith
 
 add-visit-2 : (t : ℕ) → lts.Need-add-visit-2 (R t) (At t) own.Post Inv μ
 add-visit-2 t c =
     let closed = c .before in
-    let w = closed-within _ _ (sym (closed .before .before .read-head .ensures) ∙ closed .head2 .given .1) in
+    let w = closed-within _ _ _ (sym (closed .before .before .read-head .ensures) ∙ closed .head2 .given .1) in
     omega arith
 
 visit-requires : (t : ℕ) → lts.Need-visit-requires (R t) (At t) own.Post Inv μ
-visit-requires t c κs = search needs
+visit-requires t c κs =
+    let closed = c .before .before in
+    let w = closed-within _ _ _ (sym (closed .before .before .read-head .ensures) ∙ closed .head2 .given .1) in
+    (omega arith, closed .before .before .before .before .loop .inv .0)
 
 aligned-requires : (t : ℕ) → lts.Need-aligned-requires (R t) (At t) own.Post Inv μ
 aligned-requires t c κs =
-    let closed = c .before .before in
-    let w = closed-within _ _ (sym (closed .before .before .read-head .ensures) ∙ closed .head2 .given .1) in
+    let closed = c .before .before .before in
+    let w = closed-within _ _ _ (sym (closed .before .before .read-head .ensures) ∙ closed .head2 .given .1) in
     omega arith
 
 sub-zero-bytes : (t : ℕ) → lts.Need-sub-zero-bytes (R t) (At t) own.Post Inv μ
@@ -107,86 +110,90 @@ sub-zero-bytes t c = search needs
 zero-bytes-requires : (t : ℕ) → lts.Need-zero-bytes-requires (R t) (At t) own.Post Inv μ
 zero-bytes-requires t c κs = search needs
 
-halt-requires-2 : (t : ℕ) → lts.Need-halt-requires-2 (R t) (At t) own.Post Inv μ
-halt-requires-2 t c κs = search needs
-
 returns-2 : (t : ℕ) → lts.Need-returns-2 (R t) (At t) own.Post Inv μ
 returns-2 t c =
-    let next = c .before .before .before in
-    let visited = next .before in
-    let closed = visited .before .before in
-    let turn = closed .before .before .before in
-    turn-closed-207 (turn .before .loop .inv) (search needs) (sym (closed .before .before .read-head .ensures) ∙ closed .head2 .given .1)
-    (visited .visit .ensures) (search needs) (search needs) (next .aligned .ensures)
-    (sym (c .before .before .zero-bytes .ensures) ∙ not-true _ (c .before .if1 .taken)) (c .halt2 .ensures)
+    let next = c .before .before in
+    let met = next .before in
+    let closed = met .before .before .before in
+    let turn = closed .before .before .before in (
+      met .visit .ensures .0,
+      turn-closed-207 _ (turn .before .loop .inv .1) (search needs) (sym (closed .before .before .read-head .ensures) ∙ closed .head2 .given .1)
+          (met .visit .ensures .1) (search needs) (search needs) (next .aligned .ensures)
+          (sym (c .before .zero-bytes .ensures) ∙ not-true _ (c .if1 .taken)) (carried-fault _ _ (λ z. omega arith)),
+    )
 
 loop-less : (t : ℕ) → lts.Need-loop-less (R t) (At t) own.Post Inv μ
 loop-less t c =
     let next = c .before .before in
-    let closed = next .before .before .before in
-    let w = closed-within _ _ (sym (closed .before .before .read-head .ensures) ∙ closed .head2 .given .1) in
+    let closed = next .before .before .before .before in
+    let w = closed-within _ _ _ (sym (closed .before .before .read-head .ensures) ∙ closed .head2 .given .1) in
     let up = next .aligned .ensures in
     omega arith
 
 loop-again : (t : ℕ) → lts.Need-loop-again (R t) (At t) own.Post Inv μ
 loop-again t c =
     let next = c .before .before in
-    let visited = next .before in
-    let closed = visited .before .before in
-    let turn = closed .before .before .before in
-    turn-closed (turn .before .loop .inv) (search needs) (sym (closed .before .before .read-head .ensures) ∙ closed .head2 .given .1)
-    (visited .visit .ensures) (search needs) (search needs) (next .aligned .ensures)
-    (sym (c .before .zero-bytes .ensures) ∙ not-false _ (c .if1 .left))
+    let met = next .before in
+    let closed = met .before .before .before in
+    let turn = closed .before .before .before in (
+      met .visit .ensures .0,
+      turn-closed _ (turn .before .loop .inv .1) (search needs) (sym (closed .before .before .read-head .ensures) ∙ closed .head2 .given .1)
+          (met .visit .ensures .1) (search needs) (search needs) (next .aligned .ensures)
+          (sym (c .before .zero-bytes .ensures) ∙ not-false _ (c .if1 .left)),
+    )
 
 enum-known-head-3 : (t : ℕ) → lts.Need-enum-known-head-3 (R t) (At t) own.Post Inv μ
 enum-known-head-3 t c = search needs
 
-halt-requires-3 : (t : ℕ) → lts.Need-halt-requires-3 (R t) (At t) own.Post Inv μ
-halt-requires-3 t c κs = search needs
-
 returns-3 : (t : ℕ) → lts.Need-returns-3 (R t) (At t) own.Post Inv μ
 returns-3 t c =
-    let opened = c .before .before .before in
-    let turn = opened .before .before .before in
-    turn-205 (turn .before .loop .inv) (search needs) (sym (opened .before .before .read-head .ensures) ∙ opened .head3 .given .1) (search needs) (c .halt3 .ensures)
+    let opened = c .before .before in
+    let turn = opened .before .before .before in (
+      turn .before .loop .inv .0,
+      turn-205 _ (turn .before .loop .inv .1) (search needs) (sym (opened .before .before .read-head .ensures) ∙ opened .head3 .given .1) (search needs)
+          (carried-fault _ _ (λ z. omega arith)),
+    )
 
 add-visit-3 : (t : ℕ) → lts.Need-add-visit-3 (R t) (At t) own.Post Inv μ
 add-visit-3 t c =
     let opened = c .before .before in
-    let w = open-within _ _ (sym (opened .before .before .read-head .ensures) ∙ opened .head3 .given .1) in
+    let w = open-within _ _ _ (sym (opened .before .before .read-head .ensures) ∙ opened .head3 .given .1) in
     omega arith
 
 add-visit-4 : (t : ℕ) → lts.Need-add-visit-4 (R t) (At t) own.Post Inv μ
 add-visit-4 t c =
     let opened = c .before .before in
-    let w = open-within _ _ (sym (opened .before .before .read-head .ensures) ∙ opened .head3 .given .1) in
+    let w = open-within _ _ _ (sym (opened .before .before .read-head .ensures) ∙ opened .head3 .given .1) in
     omega arith
 
 visit-requires-2 : (t : ℕ) → lts.Need-visit-requires-2 (R t) (At t) own.Post Inv μ
-visit-requires-2 t c κs = search needs
+visit-requires-2 t c κs =
+    let opened = c .before .before .before in
+    let w = open-within _ _ _ (sym (opened .before .before .read-head .ensures) ∙ opened .head3 .given .1) in
+    (omega arith, opened .before .before .before .before .loop .inv .0)
 
 sub-walk-stream : (t : ℕ) → lts.Need-sub-walk-stream (R t) (At t) own.Post Inv μ
 sub-walk-stream t c =
-    let opened = c .before .before .before in
-    let w = open-within _ _ (sym (opened .before .before .read-head .ensures) ∙ opened .head3 .given .1) in
+    let opened = c .before .before .before .before in
+    let w = open-within _ _ _ (sym (opened .before .before .read-head .ensures) ∙ opened .head3 .given .1) in
     omega arith
 
 part-walk-stream-start : (t : ℕ) → lts.Need-part-walk-stream-start (R t) (At t) own.Post Inv μ
 part-walk-stream-start t c =
-    let opened = c .before .before .before in
-    let w = open-within _ _ (sym (opened .before .before .read-head .ensures) ∙ opened .head3 .given .1) in
+    let opened = c .before .before .before .before in
+    let w = open-within _ _ _ (sym (opened .before .before .read-head .ensures) ∙ opened .head3 .given .1) in
     omega arith
 
 part-walk-stream-end : (t : ℕ) → lts.Need-part-walk-stream-end (R t) (At t) own.Post Inv μ
 part-walk-stream-end t c =
-    let opened = c .before .before .before in
-    let w = open-within _ _ (sym (opened .before .before .read-head .ensures) ∙ opened .head3 .given .1) in
+    let opened = c .before .before .before .before in
+    let w = open-within _ _ _ (sym (opened .before .before .read-head .ensures) ∙ opened .head3 .given .1) in
     omega arith
 
 add-walk-stream : (t : ℕ) → lts.Need-add-walk-stream (R t) (At t) own.Post Inv μ
 add-walk-stream t c =
-    let opened = c .before .before .before .before in
-    let w = open-within _ _ (sym (opened .before .before .read-head .ensures) ∙ opened .head3 .given .1) in
+    let opened = c .before .before .before .before .before in
+    let w = open-within _ _ _ (sym (opened .before .before .read-head .ensures) ∙ opened .head3 .given .1) in
     omega arith
 
 sub-walk-stream-2 : (t : ℕ) → lts.Need-sub-walk-stream-2 (R t) (At t) own.Post Inv μ
@@ -194,26 +201,28 @@ sub-walk-stream-2 t c = search needs
 
 walk-stream-requires : (t : ℕ) → lts.Need-walk-stream-requires (R t) (At t) own.Post Inv μ
 walk-stream-requires t c κs =
-    let opened = c .before .before .before .before in
-    let w = open-within _ _ (sym (opened .before .before .read-head .ensures) ∙ opened .head3 .given .1) in
-    omega arith
-
-enum-known-inner : (t : ℕ) → lts.Need-enum-known-inner (R t) (At t) own.Post Inv μ
-enum-known-inner t c = search needs
+    let met = c .before .before in
+    let opened = met .before .before .before .before in
+    let w = open-within _ _ _ (sym (opened .before .before .read-head .ensures) ∙ opened .head3 .given .1) in
+    (omega arith, (omega arith, met .visit2 .ensures .0))
 
 returns-4 : (t : ℕ) → lts.Need-returns-4 (R t) (At t) own.Post Inv μ
 returns-4 t c =
-    let children = c .before .before .before in
-    let met = children .before .before in
-    let opened = met .before .before .before in
+    let children = c .before in
+    let met = children .before .before .before in
+    let opened = met .before .before .before .before in
     let turn = opened .before .before .before in
-    turn-children (turn .before .loop .inv) (search needs) (sym (opened .before .before .read-head .ensures) ∙ opened .head3 .given .1) (met .before .if2 .left)
-    (met .visit2 .ensures) (search needs) (search needs) (children .walk-stream .ensures) (search needs) (search needs) (c .before .inner .given .1)
+    let refused = carried-refused _ _ (c .if3 .taken) in (
+      children .walk-stream .ensures .0,
+      refused ∙ turn-children _ (turn .before .loop .inv .1) (search needs) (sym (opened .before .before .read-head .ensures) ∙ opened .head3 .given .1)
+          (met .before .before .if2 .left) (met .visit2 .ensures .1) (search needs) (search needs)
+          (children .walk-stream .ensures .1) (search needs) (search needs) refused,
+    )
 
 aligned-requires-2 : (t : ℕ) → lts.Need-aligned-requires-2 (R t) (At t) own.Post Inv μ
 aligned-requires-2 t c κs =
-    let opened = c .before .before .before .before .before .before in
-    let w = open-within _ _ (sym (opened .before .before .read-head .ensures) ∙ opened .head3 .given .1) in
+    let opened = c .before .before .before .before .before .before .before .before in
+    let w = open-within _ _ _ (sym (opened .before .before .read-head .ensures) ∙ opened .head3 .given .1) in
     omega arith
 
 sub-zero-bytes-2 : (t : ℕ) → lts.Need-sub-zero-bytes-2 (R t) (At t) own.Post Inv μ
@@ -222,25 +231,25 @@ sub-zero-bytes-2 t c = search needs
 zero-bytes-requires-2 : (t : ℕ) → lts.Need-zero-bytes-requires-2 (R t) (At t) own.Post Inv μ
 zero-bytes-requires-2 t c κs = search needs
 
-halt-requires-4 : (t : ℕ) → lts.Need-halt-requires-4 (R t) (At t) own.Post Inv μ
-halt-requires-4 t c κs = search needs
-
 returns-5 : (t : ℕ) → lts.Need-returns-5 (R t) (At t) own.Post Inv μ
 returns-5 t c =
-    let next = c .before .before .before in
+    let next = c .before .before in
     let children = next .before .before in
-    let met = children .before .before in
-    let opened = met .before .before .before in
-    let turn = opened .before .before .before in
-    turn-open-207 (turn .before .loop .inv) (search needs) (sym (opened .before .before .read-head .ensures) ∙ opened .head3 .given .1) (met .before .if2 .left)
-    (met .visit2 .ensures) (search needs) (search needs) (children .walk-stream .ensures) (search needs) (search needs) (next .aligned2 .ensures)
-    (sym (c .before .before .zero-bytes2 .ensures) ∙ not-true _ (c .before .if3 .taken)) (c .halt4 .ensures)
+    let met = children .before .before .before in
+    let opened = met .before .before .before .before in
+    let turn = opened .before .before .before in (
+      children .walk-stream .ensures .0,
+      turn-open-207 _ (turn .before .loop .inv .1) (search needs) (sym (opened .before .before .read-head .ensures) ∙ opened .head3 .given .1)
+          (met .before .before .if2 .left) (met .visit2 .ensures .1) (search needs) (search needs)
+          (rw (next .before .if3 .left) at (children .walk-stream .ensures .1)) (search needs) (search needs) (next .aligned2 .ensures)
+          (sym (c .before .zero-bytes2 .ensures) ∙ not-true _ (c .if4 .taken)) (carried-fault _ _ (λ z. omega arith)),
+    )
 
 loop-less-2 : (t : ℕ) → lts.Need-loop-less-2 (R t) (At t) own.Post Inv μ
 loop-less-2 t c =
     let next = c .before .before in
-    let opened = next .before .before .before .before .before .before .before in
-    let w = open-within _ _ (sym (opened .before .before .read-head .ensures) ∙ opened .head3 .given .1) in
+    let opened = next .before .before .before .before .before .before .before .before .before in
+    let w = open-within _ _ _ (sym (opened .before .before .read-head .ensures) ∙ opened .head3 .given .1) in
     let up = next .aligned2 .ensures in
     omega arith
 
@@ -248,15 +257,18 @@ loop-again-2 : (t : ℕ) → lts.Need-loop-again-2 (R t) (At t) own.Post Inv μ
 loop-again-2 t c =
     let next = c .before .before in
     let children = next .before .before in
-    let met = children .before .before in
-    let opened = met .before .before .before in
-    let turn = opened .before .before .before in
-    turn-open-next (turn .before .loop .inv) (search needs) (sym (opened .before .before .read-head .ensures) ∙ opened .head3 .given .1) (met .before .if2 .left)
-    (met .visit2 .ensures) (search needs) (search needs) (children .walk-stream .ensures) (search needs) (search needs) (next .aligned2 .ensures)
-    (sym (c .before .zero-bytes2 .ensures) ∙ not-false _ (c .if3 .left))
+    let met = children .before .before .before in
+    let opened = met .before .before .before .before in
+    let turn = opened .before .before .before in (
+      children .walk-stream .ensures .0,
+      turn-open-next _ (turn .before .loop .inv .1) (search needs) (sym (opened .before .before .read-head .ensures) ∙ opened .head3 .given .1)
+          (met .before .before .if2 .left) (met .visit2 .ensures .1) (search needs) (search needs)
+          (rw (next .before .if3 .left) at (children .walk-stream .ensures .1)) (search needs) (search needs) (next .aligned2 .ensures)
+          (sym (c .before .zero-bytes2 .ensures) ∙ not-false _ (c .if4 .left)),
+    )
 
 returns-6 : (t : ℕ) → lts.Need-returns-6 (R t) (At t) own.Post Inv μ
-returns-6 t c = going-end (c .before .loop .inv) (search needs)
+returns-6 t c = (c .before .loop .inv .0, going-end _ (c .before .loop .inv .1) (search needs))
 
 pub +walk-stream-spec : {M : Type 1} → statement M
 +walk-stream-spec = close levels λ t. lts.spec (R t)
@@ -267,7 +279,6 @@ pub +walk-stream-spec : {M : Type 1} → statement M
     (loop-holds t)
     (read-head-requires t)
     (enum-known-head t)
-    (halt-requires t)
     (returns t)
     (enum-known-head-2 t)
     (add-visit t)
@@ -276,12 +287,10 @@ pub +walk-stream-spec : {M : Type 1} → statement M
     (aligned-requires t)
     (sub-zero-bytes t)
     (zero-bytes-requires t)
-    (halt-requires-2 t)
     (returns-2 t)
     (loop-less t)
     (loop-again t)
     (enum-known-head-3 t)
-    (halt-requires-3 t)
     (returns-3 t)
     (add-visit-3 t)
     (add-visit-4 t)
@@ -292,12 +301,10 @@ pub +walk-stream-spec : {M : Type 1} → statement M
     (add-walk-stream t)
     (sub-walk-stream-2 t)
     (walk-stream-requires t)
-    (enum-known-inner t)
     (returns-4 t)
     (aligned-requires-2 t)
     (sub-zero-bytes-2 t)
     (zero-bytes-requires-2 t)
-    (halt-requires-4 t)
     (returns-5 t)
     (loop-less-2 t)
     (loop-again-2 t)

@@ -1,49 +1,51 @@
 -- `visit` meets its contract, case by case.
+use lib.ListN.{length-set}
+use Rattle.sections.proofs.walk.Carried.{words-other, words-after, words-met, words-passed}
 use borrow.Author.Needs.{needs}
-use Rattle.sections.specs.Seek.{visited}
-use Rattle.sections.proofs.walk.Carried.{visit-other, visit-met, visit-next}
 use Rattle.sections.proofs.walk.visit.Statement.{statement}
 use Rattle.sections.proofs.walk.visit.Tie as tie
 
-enum-known-seek : tie.Need-enum-known-seek
-enum-known-seek c = search needs
-
 returns : tie.Need-returns
-returns c = visit-other _ _ _ _ (c .before .before .seek .given .1) (search needs)
+returns c = (search needs, words-other _ _ _ _ _ (search needs))
+
+element-copy-out-if2 : tie.Need-element-copy-out-if2
+element-copy-out-if2 c = search needs
 
 returns-2 : tie.Need-returns-2
-returns-2 c = visit-met _ _ _ _ (c .before .before .before .seek .given .1) (search needs) (search needs)
+returns-2 c = (search needs, words-after _ _ _ _ _ (search needs))
 
-sub-rest : tie.Need-sub-rest
-sub-rest c = search needs
+element-copy-out-left : tie.Need-element-copy-out-left
+element-copy-out-left c = search needs
 
-enum-told : tie.Need-enum-told
-enum-told c = search needs
+element-write-seek : tie.Need-element-write-seek
+element-write-seek c = search needs
 
-enum-told-2 : tie.Need-enum-told-2
-enum-told-2 c = search needs
+element-write-seek-2 : tie.Need-element-write-seek-2
+element-write-seek-2 c = search needs
+
+sub-seek : tie.Need-sub-seek
+sub-seek c = search needs
+
+element-write-seek-3 : tie.Need-element-write-seek-3
+element-write-seek-3 c = search needs
 
 returns-3 : tie.Need-returns-3
-returns-3 c = visit-next _ _ _ _ (c .before .before .before .seek .given .1) (search needs) (search needs) (search needs)
+returns-3 c = (simp length-set (c .before .before .before .before .before .pre .1), words-met _ _ _ _ _ (search needs) (search needs) (search needs) (search needs) (search needs))
 
 returns-4 : tie.Need-returns-4
-unfolding visited
-returns-4 c = rw (c .enum-told .given .1)
-
-returns-5 : tie.Need-returns-5
-unfolding visited
-returns-5 c = rw (c .enum-told2 .given .1)
+returns-4 c = (simp length-set (c .before .before .before .before .before .pre .1), words-passed _ _ _ _ _ (search needs) (search needs) (search needs) (search needs) (search needs))
 
 pub visit-spec : {M : Type 1} → statement M
 visit-spec =
     tie.close
     (tie.spec
-    enum-known-seek
     returns
+    element-copy-out-if2
     returns-2
-    sub-rest
-    enum-told
-    enum-told-2
+    element-copy-out-left
+    element-write-seek
+    element-write-seek-2
+    sub-seek
+    element-write-seek-3
     returns-3
-    returns-4
-    returns-5)
+    returns-4)

@@ -1,7 +1,6 @@
 -- `zero_bytes` meets its contract. The loop's invariant: the bytes still to come decide.
 use Prim.Native.Nat.{_≤_, _+_, _-_}
 use mathlib.Core.Path.{_≡_, _∙_}
-use native.Mathlib.Omega.{arith}
 use borrow.Author.Needs.{needs}
 use Rattle.sections.specs.Walk.{zeros}
 use Rattle.sections.proofs.walk.Padding.{zeros-whole, zeros-end, zeros-ended, zeros-stop, zeros-more}
@@ -23,14 +22,14 @@ add-if1 c = search needs
 returns : tie.Need-returns Inv-loop μ-loop
 returns c = let turn = c .before .before in zeros-ended _ _ _ _ (search needs) ∙ turn .loop .inv .1
 
-add-byte-at : tie.Need-add-byte-at Inv-loop μ-loop
-add-byte-at c = search needs
+add-if2 : tie.Need-add-if2 Inv-loop μ-loop
+add-if2 c = search needs
 
-byte-at-requires : tie.Need-byte-at-requires Inv-loop μ-loop
-byte-at-requires c κs = search needs
+shared-slice-read-if2 : tie.Need-shared-slice-read-if2 Inv-loop μ-loop
+shared-slice-read-if2 c = search needs
 
 returns-2 : tie.Need-returns-2 Inv-loop μ-loop
-returns-2 c = let turn = c .before .before .before .before in zeros-stop _ _ _ _ (search needs) (omega arith) ∙ turn .loop .inv .1
+returns-2 c = let turn = c .before .before .before .before in zeros-stop _ _ _ _ (search needs) (search needs) ∙ turn .loop .inv .1
 
 add-i : tie.Need-add-i Inv-loop μ-loop
 add-i c = search needs
@@ -53,8 +52,8 @@ zero-bytes-spec =
     loop-holds
     add-if1
     returns
-    add-byte-at
-    byte-at-requires
+    add-if2
+    shared-slice-read-if2
     returns-2
     add-i
     loop-less

@@ -15,6 +15,9 @@ least-requires c κs = search needs
 number-requires-2 : tie.Need-number-requires-2
 number-requires-2 c κs = search needs
 
+mode-of-requires : tie.Need-mode-of-requires
+mode-of-requires c κs = search needs
+
 slice-relend-prefix-append : tie.Need-slice-relend-prefix-append
 slice-relend-prefix-append c = search needs
 
@@ -70,6 +73,7 @@ append-in-spec =
     number-requires
     least-requires
     number-requires-2
+    mode-of-requires
     slice-relend-prefix-append
     slice-aggregate-append
     item-requires
