@@ -29,7 +29,7 @@ use Rattle.block_service.specs.Service.{Call, getAttributes, setAttribut
 use Rattle.block_service.specs.Service.{reply, moveAnswer, effect, withAttributes, decide, Result, perform, bufferOf, step}
 use Rattle.block_service.proofs.service.Erasing.{unprotected-write, unprotected-erase}
 use Rattle.block_service.proofs.service.Kept.{map-kept, edition-kept, protection-kept}
-use Rattle.block_service.specs.Settings.{statusBits, changesFixed, changesLocked, raises, clears, lacksCapability, settingRefusals}
+use Rattle.settings.specs.Settings.{statusBits, changesFixed, changesLocked, raises, clears, lacksCapability, settingRefusals}
 
 abbrev changesFixed₁ : ℕ → ℕ → Bool
 changesFixed₁ old new =

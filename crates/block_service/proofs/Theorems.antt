@@ -22,13 +22,13 @@ use Rattle.block_service.specs.Blocks.{place, HasLength, startOf, consec
 use Rattle.block_service.specs.Erase.{endOfList, goodList, names, reaches, eraseChange}
 use Rattle.block_service.specs.Service.{Call, getAttributes, getPhysicalAddress, setAttributes, getBlockSize, read, write, eraseBlocks, protectBlocks}
 use Rattle.block_service.specs.Service.{lentRefusals, refusals, moveAnswer, withAttributes, withProtected, result, bufferOf, step}
-use Rattle.block_service.specs.Settings.{statusBits, changesFixed, changesLocked, lacksCapability}
+use Rattle.settings.specs.Settings.{statusBits, changesFixed, changesLocked, lacksCapability}
 use Rattle.block_service.specs.declared.blocks.Place.the-variants.{At}
 use Rattle.block_service.proofs.access.Moves as Moves
 use Rattle.block_service.proofs.blocks.Places as Places
 use Rattle.block_service.proofs.erase.Lists as Lists
 use Rattle.block_service.proofs.blocks.Runs as Runs
-use Rattle.block_service.proofs.settings.Rules as Rules
+use Rattle.settings.proofs.Rules as Rules
 use Rattle.block_service.proofs.service.Erasing as Erasing
 use Rattle.block_service.proofs.service.Kept as Kept
 use Rattle.block_service.proofs.service.Moving as Moving

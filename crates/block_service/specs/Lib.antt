@@ -2,4 +2,3 @@ pub mod Access
 pub mod Blocks
 pub mod Erase
 pub mod Service
-pub mod Settings

@@ -17,7 +17,7 @@ use Rattle.volume.specs.declared.state.State.{State}
 use Rattle.block_service.specs.Access.{countMoved, ByteChange, changedByte, writeChange}
 use Rattle.block_service.specs.Blocks.{place, startOf, lengthOf, consecutiveBlocks}
 use Rattle.block_service.specs.Erase.{goodList, reaches, eraseChange}
-use Rattle.block_service.specs.Settings.{settingRefusals}
+use Rattle.settings.specs.Settings.{settingRefusals}
 use Rattle.block_service.specs.declared.check.Check
 use Rattle.block_service.specs.declared.service.Settings
 use Rattle.block_service.specs.declared.service.Address

@@ -8,7 +8,6 @@ pub mod blocks;
 mod check;
 pub mod erase;
 pub mod service;
-mod settings;
 
 pub use crate::erase::END_OF_LIST;
 pub use crate::service::Address;

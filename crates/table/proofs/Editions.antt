@@ -17,7 +17,7 @@ use Rattle.volume.specs.HeaderWriter.{wordsBytes, headerFront, headerBack, head
 use Rattle.volume.specs.State.{mapOf, stateOf, stateWith, zeroState, unlawful}
 use Rattle.volume.specs.declared.state.State.{State}
 use Rattle.block_service.specs.Service.{refusals, effect, decide, withAttributes, perform, bufferOf, setAttributes, step}
-use Rattle.block_service.specs.Settings.{statusBits, changesFixed, raises, clears, breaksLock, changesLocked, lacksCapability, settingRefusals}
+use Rattle.settings.specs.Settings.{statusBits, changesFixed, raises, clears, breaksLock, changesLocked, lacksCapability, settingRefusals}
 use Rattle.isolation.specs.Runs.{run}
 use Rattle.table.specs.SamplePI.{headerPI, extendedPI, samplePI}
 

@@ -20,7 +20,7 @@ use Rattle.block_service.specs.Blocks.{inBlock, holds, place, placeFrom, startO
 use Rattle.block_service.specs.Erase.{endOfList, goodList, names, reaches, eraseChange}
 use Rattle.volume.specs.Header.{opened, openVolume, stateAt, wordsAt, wordSum, openRefusals, headerLengthFault, mapFault}
 use Rattle.block_service.specs.Service.{refusals, lentRefusals, moveAnswer, effect, decide, withAttributes, perform, bufferOf, Call, setAttributes, read, eraseBlocks, step}
-use Rattle.block_service.specs.Settings.{statusBits, changesFixed, raises, clears, breaksLock, changesLocked, lacksCapability, settingRefusals}
+use Rattle.settings.specs.Settings.{statusBits, changesFixed, raises, clears, breaksLock, changesLocked, lacksCapability, settingRefusals}
 use Rattle.volume.specs.ExtendedHeader.{extOffset, extFault}
 use Rattle.volume.specs.State.{mapOf, stateOf, stateWith, unlawful}
 use Rattle.volume.specs.declared.state.State.{State}

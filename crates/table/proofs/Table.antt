@@ -16,7 +16,7 @@ use Rattle.block_service.specs.Erase.{endOfList, goodList, names, reaches, eras
 use Rattle.volume.specs.Header.{openVolume, opened, opens, stateAt, wordsAt, wordSum, runningSumsFrom, runningSums, openRefusals, headerLengthFault, mapFault}
 use Rattle.block_service.specs.Service.{refusals, lentRefusals, moveAnswer, effect, decide, withAttributes, withProtected, perform, bufferOf, step}
 use Rattle.block_service.specs.Service.{Result, Call, setAttributes, read, write, eraseBlocks}
-use Rattle.block_service.specs.Settings.{statusBits, changesFixed, raises, clears, breaksLock, changesLocked, lacksCapability, settingRefusals}
+use Rattle.settings.specs.Settings.{statusBits, changesFixed, raises, clears, breaksLock, changesLocked, lacksCapability, settingRefusals}
 use Rattle.volume.specs.ExtendedHeader.{extOffset, extFault}
 use Rattle.volume.specs.State.{mapOf, stateOf, stateWith, zeroState, unlawful}
 use Rattle.sections.specs.Types.{infoAmong, typeInfo}

@@ -22,7 +22,7 @@ use Rattle.block_service.specs.Blocks.{place, inBlock}
 use Rattle.block_service.specs.Erase.{names}
 use Rattle.block_service.specs.Service.{Call, getAttributes, setAttributes, getPhysicalAddress, getBlockSize, read, write, eraseBlocks, protectBlocks, refusals, effect, Result}
 use Rattle.block_service.specs.Service.{perform, bufferOf, step, decide, Effect, reply, setTo, copyOut, change, withAttributes, withProtected}
-use Rattle.block_service.specs.Settings.{statusBits, changesFixed, raises, clears, breaksLock, changesLocked, settingRefusals}
+use Rattle.settings.specs.Settings.{statusBits, changesFixed, raises, clears, breaksLock, changesLocked, settingRefusals}
 use Rattle.block_service.specs.declared.blocks.Place.{Place}
 use Rattle.block_service.specs.declared.blocks.Place.the-variants.{At, Missing}
 use Rattle.block_service.proofs.blocks.Places.{place-lost, past-every-block, in-one-block}
@@ -31,7 +31,7 @@ use Rattle.block_service.proofs.service.Erasing.{erase-other}
 use Rattle.block_service.proofs.service.Moving.{write-other, write-in-block}
 use Rattle.block_service.proofs.service.Protecting.{protect-passed, lower-lawful}
 use Rattle.block_service.proofs.service.Steps.{refused-step, allowed-step, quiet-step, allowed-answers, passed-write, write-unprotected, passed-erase, erase-unprotected}
-use Rattle.block_service.proofs.settings.Rules.{same-fixed, fixed-bits}
+use Rattle.settings.proofs.Rules.{same-fixed, fixed-bits}
 
 -- ---- what no call changes
 

@@ -10,8 +10,8 @@ use Rattle.common.proofs.Refusals.{row-applies, row-passes, no-row}
 use Rattle.volume.specs.State.{stateWith, unlawful}
 use Rattle.volume.specs.declared.state.State.{State}
 use Rattle.block_service.specs.Service.{setAttributes, refusals, effect, withAttributes, Result, result, perform, bufferOf, step}
-use Rattle.block_service.specs.Settings.{statusBits, changesFixed, changesLocked, lacksCapability, settingRefusals}
-use Rattle.block_service.proofs.settings.Rules.{fixed-none, locked-none, lacks-none, bits-fixed}
+use Rattle.settings.specs.Settings.{statusBits, changesFixed, changesLocked, lacksCapability, settingRefusals}
+use Rattle.settings.proofs.Rules.{fixed-none, locked-none, lacks-none, bits-fixed}
 use Rattle.block_service.proofs.service.Steps.{refused-step, allowed-step, quiet-step, unlawful-step}
 
 -- the rules in their order, of a lawful state

@@ -10,7 +10,7 @@ use Rattle.common.specs.Refusals.{any}
 use Rattle.common.proofs.Bits.{bit, masked-bit, bits-masked}
 use Rattle.common.proofs.Refusals.{any-append}
 use Rattle.volume.specs.Attributes.{flag, readDisabledCap, readEnabledCap, readStatus, writeDisabledCap, writeEnabledCap, writeStatus, lockCap, lockStatus, readLockCap, readLockStatus, writeLockCap, writeLockStatus}
-use Rattle.block_service.specs.Settings.{statusBits, changesFixed, changesLocked, breaksLock, lacksCapability, raises, clears}
+use Rattle.settings.specs.Settings.{statusBits, changesFixed, changesLocked, breaksLock, lacksCapability, raises, clears}
 
 -- ---- capabilities
 

@@ -1,9 +1,9 @@
 -- `block_service::settings::lacks_capability` meets its contract: the shared statuses, then the locks of edition 2.
 use mathlib.Core.Path.{_≡_, sym, _∙_}
-use Rattle.block_service.proofs.settings.Rules.{readLockLacking, writeLockLacking, other-lacks, shared-lacks, read-lock-lacks, write-lock-lacks}
+use Rattle.settings.proofs.Rules.{readLockLacking, writeLockLacking, other-lacks, shared-lacks, read-lock-lacks, write-lock-lacks}
 use borrow.Author.Needs.{needs}
-use Rattle.block_service.proofs.settings.lacks_capability.Statement.{statement}
-use Rattle.block_service.proofs.settings.lacks_capability.Tie as tie
+use Rattle.settings.proofs.lacks_capability.Statement.{statement}
+use Rattle.settings.proofs.lacks_capability.Tie as tie
 
 -- the places behind the edition's test and behind the read lock's, and what each lock's test says
 abbrev edition : tie.After-lacks → tie.Else2

@@ -1,8 +1,8 @@
 -- `block_service::settings::status_bits` meets its contract: each edition's bits, added up.
 use borrow.Author.Tests.{ne-eqb}
-use Rattle.block_service.specs.Settings.{statusBits}
-use Rattle.block_service.proofs.settings.status_bits.Statement.{statement}
-use Rattle.block_service.proofs.settings.status_bits.Tie as tie
+use Rattle.settings.specs.Settings.{statusBits}
+use Rattle.settings.proofs.status_bits.Statement.{statement}
+use Rattle.settings.proofs.status_bits.Tie as tie
 
 returns : tie.Need-returns
 unfolding statusBits

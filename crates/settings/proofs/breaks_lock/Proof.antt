@@ -3,10 +3,10 @@ use mathlib.Core.Bool.{true, not}
 use mathlib.Core.Path.{_≡_, sym, ap, _∙_}
 use borrow.Author.Tests.{not-true, not-false}
 use Rattle.volume.specs.Attributes.{flag}
-use Rattle.block_service.proofs.settings.Rules.{unlocked, lowered, was-raised, was-clear}
+use Rattle.settings.proofs.Rules.{unlocked, lowered, was-raised, was-clear}
 use borrow.Author.Needs.{needs}
-use Rattle.block_service.proofs.settings.breaks_lock.Statement.{statement}
-use Rattle.block_service.proofs.settings.breaks_lock.Tie as tie
+use Rattle.settings.proofs.breaks_lock.Statement.{statement}
+use Rattle.settings.proofs.breaks_lock.Tie as tie
 
 -- the lock is set, and stays set
 on : (c : tie.Else1) → flag (c .before .before .args .old) (c .before .before .args .lock) ≡ true

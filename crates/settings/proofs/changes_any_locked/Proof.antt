@@ -2,9 +2,9 @@
 use mathlib.Core.Path.{_≡_, sym, _∙_}
 use borrow.Author.Needs.{needs}
 use Rattle.volume.specs.Attributes.{flag, lockStatus}
-use Rattle.block_service.proofs.settings.Rules.{differ-comm}
-use Rattle.block_service.proofs.settings.changes_any_locked.Statement.{statement}
-use Rattle.block_service.proofs.settings.changes_any_locked.Tie as tie
+use Rattle.settings.proofs.Rules.{differ-comm}
+use Rattle.settings.proofs.changes_any_locked.Statement.{statement}
+use Rattle.settings.proofs.changes_any_locked.Tie as tie
 
 -- what the test said of the settings as they are
 told : (c : tie.After-is-set) → c .is-set .result ≡ flag (c .before .args .old) lockStatus

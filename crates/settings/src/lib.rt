@@ -1,9 +1,12 @@
 // The rules of setting the settings, by edition: which bits may change, what a lock keeps, and which capability a change needs.
+// The block service tests them in this order.
+//
+// Every public function answers every input and has no `requires`.
 ghost use mathlib.Core.Bool.{not, _&&_, _||_};
 ghost use mathlib.Core.Path.{_≡_};
 ghost use lib.Dec.{eqb};
 ghost use Rattle.volume.specs.Attributes.{flag, lockStatus};
-ghost use Rattle.block_service.specs.Settings.{breaksLock, changesFixed, changesLocked, lacksCapability, statusBits};
+ghost use Rattle.settings.specs.Settings.{breaksLock, changesFixed, changesLocked, lacksCapability, statusBits};
 use volume::attributes::LOCK_CAP;
 use volume::attributes::LOCK_STATUS;
 use volume::attributes::READ_DISABLED_CAP;
@@ -24,7 +27,7 @@ const STATUS_BITS: u32 = 0xA4;
 const PI_STATUS_BITS: u32 = 0xA0A4;
 
 // Whether the new settings change a bit other than the edition's statuses.
-pub(crate) fn changes_fixed(edition: u32, old: u32, new: u32) -> bool
+pub fn changes_fixed(edition: u32, old: u32, new: u32) -> bool
     ensures { λ r. ⌜ r ≡ changesFixed edition old new ⌝ }
 {
     let statuses = status_bits(edition);
@@ -43,7 +46,7 @@ fn status_bits(edition: u32) -> u32
 
 // Whether the new settings change what a lock keeps: any bit, where the settings are locked; in edition 2 a status that is locked,
 // or its lock.
-pub(crate) fn changes_locked(edition: u32, old: u32, new: u32) -> bool
+pub fn changes_locked(edition: u32, old: u32, new: u32) -> bool
     ensures { λ r. ⌜ r ≡ changesLocked edition old new ⌝ }
 {
     if changes_any_locked(old, new) {
@@ -85,7 +88,7 @@ fn changes_any_locked(old: u32, new: u32) -> bool
 }
 
 // Whether the new settings change a status without the capability for it.
-pub(crate) fn lacks_capability(edition: u32, old: u32, new: u32) -> bool
+pub fn lacks_capability(edition: u32, old: u32, new: u32) -> bool
     ensures { λ r. ⌜ r ≡ lacksCapability edition old new ⌝ }
 {
     if lacks_shared(old, new) {

@@ -1,9 +1,9 @@
 -- `block_service::settings::lacks_shared` meets its contract.
 use mathlib.Core.Path.{_≡_}
 use borrow.Author.Needs.{needs}
-use Rattle.block_service.proofs.settings.Rules.{readLacking, writeLacking, lockLacking, read-lacks, write-lacks, lock-lacks}
-use Rattle.block_service.proofs.settings.lacks_shared.Statement.{statement}
-use Rattle.block_service.proofs.settings.lacks_shared.Tie as tie
+use Rattle.settings.proofs.Rules.{readLacking, writeLacking, lockLacking, read-lacks, write-lacks, lock-lacks}
+use Rattle.settings.proofs.lacks_shared.Statement.{statement}
+use Rattle.settings.proofs.lacks_shared.Tie as tie
 
 -- the places of the two later tests, from the one before
 abbrev entry : tie.After-lacks → tie.Start

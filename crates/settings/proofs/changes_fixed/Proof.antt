@@ -1,9 +1,9 @@
 -- `block_service::settings::changes_fixed` meets its contract: the statuses are raised in both.
-use Rattle.block_service.specs.Settings.{changesFixed}
-use Rattle.block_service.proofs.settings.Rules.{differ-comm}
+use Rattle.settings.specs.Settings.{changesFixed}
+use Rattle.settings.proofs.Rules.{differ-comm}
 use borrow.Author.Needs.{needs}
-use Rattle.block_service.proofs.settings.changes_fixed.Statement.{statement}
-use Rattle.block_service.proofs.settings.changes_fixed.Tie as tie
+use Rattle.settings.proofs.changes_fixed.Statement.{statement}
+use Rattle.settings.proofs.changes_fixed.Tie as tie
 
 status-bits-requires : tie.Need-status-bits-requires
 status-bits-requires c κs = search needs

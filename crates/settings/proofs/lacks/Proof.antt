@@ -2,8 +2,8 @@
 use mathlib.Core.Path.{sym}
 use mathlib.Core.Bool.{not, or-false}
 use borrow.Author.Needs.{needs}
-use Rattle.block_service.proofs.settings.lacks.Statement.{statement}
-use Rattle.block_service.proofs.settings.lacks.Tie as tie
+use Rattle.settings.proofs.lacks.Statement.{statement}
+use Rattle.settings.proofs.lacks.Tie as tie
 
 returns : tie.Need-returns
 returns c = search needs

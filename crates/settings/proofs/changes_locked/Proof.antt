@@ -1,8 +1,8 @@
 -- `block_service::settings::changes_locked` meets its contract: the general lock, then each status's.
-use Rattle.block_service.proofs.settings.Rules.{any-locked, other-locked, read-locked, write-locked}
+use Rattle.settings.proofs.Rules.{any-locked, other-locked, read-locked, write-locked}
 use borrow.Author.Needs.{needs}
-use Rattle.block_service.proofs.settings.changes_locked.Statement.{statement}
-use Rattle.block_service.proofs.settings.changes_locked.Tie as tie
+use Rattle.settings.proofs.changes_locked.Statement.{statement}
+use Rattle.settings.proofs.changes_locked.Tie as tie
 
 changes-any-locked-requires : tie.Need-changes-any-locked-requires
 changes-any-locked-requires c κs = search needs
