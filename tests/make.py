@@ -14,7 +14,7 @@ from pathlib import Path
 sys.dont_write_bytecode = True
 
 import trial
-from cases import editions, headers, long_headers, protection, service, streams
+from cases import editions, first_match, headers, long_headers, protection, service, streams
 from model.volume import listing
 
 ROOT = Path(__file__).resolve().parent.parent
@@ -38,7 +38,8 @@ def checked(cases):
 
 
 def made():
-    return list(checked(pair for part in (headers, editions, service, protection, streams, long_headers) for pair in part.cases()))
+    parts = (headers, editions, service, protection, streams, long_headers, first_match)
+    return list(checked(pair for part in parts for pair in part.cases()))
 
 
 def files(cases):

@@ -222,9 +222,12 @@ def run(name, own, calls, lent=None, base=0, pattern=PATTERN, state=None):
     return Case(name, script, lines, numbers)
 
 
+def part_fields(stream, no, first, end):
+    return answer_fields(no, first, end, shown(stream[first:end]))
+
+
 def search_fields(stream, kind, instance, mode):
-    no, first, end = sections.search(stream, kind, instance, mode)
-    return [kind, instance] + answer_fields(no, first, end) + ([shown(stream[first:end])] if no == 0 else [])
+    return [kind, instance] + part_fields(stream, *sections.search(stream, kind, instance, mode))
 
 
 def in_mode(word, mode):
@@ -237,6 +240,13 @@ def searching(name, stream, kind, instance, mode=FRAMEWORK):
     script = items(name.encode(), number(4), stream, bytes([kind]), number(instance), *more)
     fields = search_fields(stream, kind, instance, mode)
     return Case(name, script, [line(name, word, *fields)], [fields[2]])
+
+
+def first_searching(name, stream, kind, mode=FRAMEWORK):
+    word, more = in_mode("search first", mode)
+    script = items(name.encode(), number(9), stream, bytes([kind]), *more)
+    no, first, end = sections.search_first(stream, kind, mode)
+    return Case(name, script, [line(name, word, kind, *part_fields(stream, no, first, end))], [no])
 
 
 def appending(name, room, used, kind, body, stream=b"", instance=0, pattern=PATTERN, buffer=ROOM, mode=FRAMEWORK):

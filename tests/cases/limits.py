@@ -1,17 +1,18 @@
 """At the limits: 16,777,216 bytes of a volume or a stream, 16,777,215 of a section; in PI mode 67,108,864 of a stream, and long
 headers from 16,777,215 bytes of a section on.
 
-The lines are those of headers.py, editions.py and streams.py. Bodies of one byte value with a mark at each end.
+The lines are those of headers.py, editions.py, streams.py and first_match.py. Bodies of one byte value with a mark at each end.
 """
 
 from functools import partial
 
 from cases.editions import entry, extended, image
+from cases.first_match import PE32
 from cases.headers import header
 from cases.long_headers import long_compression, long_guided, long_section, pi
 from cases.streams import BODY, COMPRESSION, FREE_FORM, GUID_DEFINED, RAW, VERSION, compression, guided, section, stream
 from model.sections import PI
-from trial import ERASED, appending, ext_entry, opening, searching
+from trial import ERASED, appending, ext_entry, first_searching, opening, searching
 
 LIMIT = 16777216        # bytes of a volume, and of a stream in Framework mode
 LARGEST = LIMIT - 1     # bytes of a section in Framework mode
@@ -203,6 +204,36 @@ def pi_append_limit_cases():
     yield pi_appending("202 before 206: 202", ROOM, PI_LIMIT, FREE_FORM, bytes(15), full)
 
 
+pi_first = partial(first_searching, mode=PI)
+
+
+def first_cases():
+    one, other, past = section(RAW, bytes(range(12))), section(PE32, bytes(12)), section(PE32, bytes(12), 17)
+    ahead = one + other * (LIMIT // 16 - 2) + past
+    yield "search first", first_searching("the first of 1,048,576 sections, the last one past the end", ahead, RAW)
+    yield "search", searching("the first of 1,048,576 sections, the last one past the end: 203", ahead, RAW, 0)
+    yield "search first", first_searching("none of 1,048,576 sections, the last one past the end: 203", ahead, VERSION)
+    behind = other * (LIMIT // 16 - 1) + one
+    yield "search first", first_searching("the last of 1,048,576 sections", behind, RAW)
+    yield "search first", first_searching("none of 1,048,576 sections: 14", behind, VERSION)
+    yield "search first", first_searching("the last of 1,048,576 sections, past the end: 203", behind[:-1], RAW)
+    yield "search first", first_searching("a holder of 16,777,215 bytes with contents of zero", compression(bytes(LARGEST - 9)), COMPRESSION)
+    over = one + bytes(LIMIT - 15)
+    yield "search first", first_searching("a match, then zeros, 16,777,216 bytes", over[:LIMIT], RAW)
+    yield "search first", first_searching("a match, then zeros, 16,777,217 bytes: 206", over, RAW)
+    yield "search first pi", pi_first("a match, then zeros, 16,777,217 bytes", over, RAW)
+
+
+def pi_first_limit_cases():
+    over = long_section(RAW, BODY) + bytes(PI_LIMIT - 10)
+    yield "search first pi", pi_first("a match, then zeros, 67,108,864 bytes", over[:PI_LIMIT], RAW)
+    yield "search first pi", pi_first("a match, then zeros, 67,108,865 bytes: 206", over, RAW)
+    last = long_section(PE32, body(PI_LIMIT - 20)) + section(RAW, BODY) + b"\x01"
+    yield "search first pi", pi_first("a match at the end of 67,108,864 bytes, its padding not zero", last, RAW)
+    yield "search pi", pi("a match at the end of 67,108,864 bytes, its padding not zero: 207", last, RAW, 0)
+    yield "search first pi", pi_first("67,108,864 bytes and no match, padding not zero: 207", last, VERSION)
+
+
 def cases():
     for case in open_cases():
         yield "open", case
@@ -219,3 +250,5 @@ def cases():
     for group in (pi_append_cases, pi_append_limit_cases):
         for case in group():
             yield "append pi", case
+    yield from first_cases()
+    yield from pi_first_limit_cases()

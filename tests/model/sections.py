@@ -1,8 +1,9 @@
-"""Section streams, as the scope document describes them, with request i of 02: the test of the
-whole tree, the search for a type and instance, and appending a leaf.
+"""Section streams, as the scope document describes them, with requests f and i of 02: the test of
+the whole tree, the search for a type and instance, the search for a type's first section, and
+appending a leaf.
 
-Mode 0 is Framework, any other PI; there a size field of FF FF FF means that a 32-bit size
-stands behind the type. search answers (number, first byte, end), append (number, used count).
+Mode 0 is Framework, any other PI; there a size field of FF FF FF means that a 32-bit size stands
+behind the type. Both searches answer (number, first byte, end), append (number, used count).
 """
 
 FRAMEWORK, PI = 0, 1
@@ -52,8 +53,8 @@ def contents_offset(section, kind, header, size):
     return None
 
 
-def walk(stream, start, end, level, mode, found):
-    """Appends (type, first byte, end) of each section in walk order."""
+def walk(stream, start, end, level, mode):
+    """Yields (type, first byte, end) of each section in walk order, before anything behind its fields is looked at."""
     at = start
     while at < end:
         size, header = size_and_header(stream, at, end, mode)
@@ -65,9 +66,9 @@ def walk(stream, start, end, level, mode, found):
         inner = contents_offset(stream[at:at + min(size, 28)], kind, header, size)
         if inner is not None and level == LEVELS:
             raise Fault(205)
-        found.append((kind, at + header, at + size))
+        yield kind, at + header, at + size
         if inner is not None:
-            walk(stream, at + inner, at + size, level + 1, mode, found)
+            yield from walk(stream, at + inner, at + size, level + 1, mode)
         padded = min(end, start + (at + size - start + 3) // 4 * 4)
         if any(stream[at + size:padded]):
             raise Fault(207)
@@ -78,15 +79,26 @@ def search(stream, kind, instance, mode=FRAMEWORK):
     """(number, first byte, end)"""
     if len(stream) > stream_limit(mode):
         return 206, 0, 0
-    found = []
     try:
-        walk(stream, 0, len(stream), 1, mode, found)
+        matches = [(first, end) for k, first, end in walk(stream, 0, len(stream), 1, mode) if k == kind]
     except Fault as fault:
         return fault.args[0], 0, 0
-    matches = [(first, end) for k, first, end in found if k == kind]
     if instance >= len(matches):
         return 14, 0, 0
     return (0,) + matches[instance]
+
+
+def search_first(stream, kind, mode=FRAMEWORK):
+    """(number, first byte, end), by the walk up to the first section of that type"""
+    if len(stream) > stream_limit(mode):
+        return 206, 0, 0
+    try:
+        for k, first, end in walk(stream, 0, len(stream), 1, mode):
+            if k == kind:
+                return 0, first, end
+    except Fault as fault:
+        return fault.args[0], 0, 0
+    return 14, 0, 0
 
 
 def append(buffer, used, kind, body, mode=FRAMEWORK):

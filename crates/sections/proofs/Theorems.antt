@@ -1,4 +1,4 @@
--- The theorems of this crate, in document 01's order ("Sections"; 02, i): their words, the statement over the definitions of specs/ that the
+-- The theorems of this crate, in document 01's order ("Sections"; 02, i and f): their words, the statement over the definitions of specs/ that the
 -- contracts cite, and where it is proved.
 use Prim.Native.Nat.{ℕ, suc, _+_, _-_, _%_, _≤_, _<_}
 use mathlib.Core.Path.{_≡_, refl}
@@ -15,7 +15,7 @@ use Rattle.sections.specs.Types.{typeIs, infoAmong, typeInfo}
 use Rattle.sections.specs.Header.{sizeField, isLong, headerLength, sizeAt, typeAt, grown, leastSize, unpackedLength, compressionKind, dataOffset, attributes}
 use Rattle.sections.specs.Header.{contentsAt, packed, wrongContents, sizeFaults, headFaults, sectionOf, sectionAt, headAt}
 use Rattle.sections.specs.Walk.{Trace, done, fault, section, andThen, aligned, zeros, part, afterPadding, meet, siblings, walk, streamLimit, streamWalk}
-use Rattle.sections.specs.Search.{sections, firstFault, ofType, searchOf, WellFormed, countOf}
+use Rattle.sections.specs.Search.{Section, sections, firstFault, ofType, searchOf, firstAnswer, searchFirstOf, WellFormed, countOf}
 use Rattle.sections.specs.Append.{leafHeader, leafStart, usedAfter, appendOf, bufferAfter}
 use Rattle.sections.specs.declared.header.Mode.{Mode}
 use Rattle.sections.specs.declared.header.Mode.the-variants.{Framework, Pi}
@@ -26,23 +26,26 @@ use Rattle.sections.proofs.FrameworkMode as framework
 use Rattle.sections.proofs.types.Rows as rows
 use Rattle.sections.proofs.header.Sizes as sizes
 use Rattle.sections.proofs.header.Cases as cases
+use Rattle.sections.proofs.header.Decided as decided
 use Rattle.sections.proofs.header.Extent as extent
 use Rattle.sections.proofs.walk.Padding as padding
 use Rattle.sections.proofs.walk.Starts as starts
-use Rattle.sections.proofs.search.Order as order
+use Rattle.sections.proofs.search.First as first
 use Rattle.sections.proofs.search.Modes as modes
+use Rattle.sections.proofs.search.Order as order
 use Rattle.sections.proofs.search.Shown as shown
+use Rattle.sections.proofs.search.Stops as stops
 use Rattle.sections.proofs.search.Unread as unread
 use Rattle.sections.proofs.append.Refusals as refusals
 use Rattle.sections.proofs.append.Stream as stream
 
--- what the example of the two modes computes with: the header at a start, and the rest
+-- what the examples compute with: the header at a start, and the rest
 unfoldable headers : Unit {0}
 unfolding le infoAmong typeInfo firstRefusal isLong headerLength sizeAt sizeFaults headFaults packed contentsAt wrongContents sectionOf headAt
 headers = tt
 
 unfoldable examples : Unit {0}
-unfolding headers zeros afterPadding meet andThen siblings walk streamLimit streamWalk sections firstFault ofType searchOf
+unfolding headers zeros afterPadding meet andThen siblings walk streamLimit streamWalk sections firstFault ofType searchOf firstAnswer
 examples = tt
 
 -- ---- types and classes
@@ -238,7 +241,7 @@ module _ (mode : Mode) (s : List ℕ) (t instance : ℕ) where
   -- "contents are searched only for kind 0", "only if attribute bit 0 is clear": what lies in packed contents changes no answer
   pub search-packed : (s′ : List ℕ) → length s ≡ length s′ → ((i : ℕ) → (unread.OnWalk mode (unread.PackedContents mode) 7 s 0 i → ⊥) → getD s i 0 ≡ getD s′ i 0)
       → searchOf mode s t instance ≡ searchOf mode s′ t instance
-  search-packed s′ = unread.search-packed mode s s′ t instance
+  search-packed s′ long same = unread.search-packed mode s s′ t long same instance
 
   -- nor does what lies in any section that is not opened, after its type's own header
   pub search-unread : (s′ : List ℕ) → unread.SameBut mode 7 s s′ 0 → searchOf mode s t instance ≡ searchOf mode s′ t instance
@@ -251,6 +254,91 @@ framework-limit = refl
 pub pi-limit : streamLimit Pi ≡ 67108864
 unfolding streamLimit
 pi-limit = refl
+
+-- ---- the first section of a type (02, f)
+
+module _ (mode : Mode) (s : List ℕ) (t : ℕ) where
+  -- 206 first, as in the search
+  pub first-206 : streamLimit mode < length s → searchFirstOf mode s t ≡ refused 206
+  first-206 = first.first-206 mode s t
+
+  -- "for a well-formed file the answer is the full search's for instance 0"
+  pub first-well : WellFormed mode s → searchFirstOf mode s t ≡ searchOf mode s t 0
+  first-well = first.first-well mode s t
+
+  -- "a fault at or before the first match in walk order, or any where nothing matches, is answered as now": it is refused exactly where the walk
+  -- meets no section of the type, with the fault in which the walk ends or, where that is none, 14; the search then refuses so too, for any instance
+  pub first-refused : (n : ℕ) → (searchFirstOf mode s t ≡ refused n)
+      ↔ ((countOf mode t s ≡ 0) × ((firstFault (streamWalk mode s) ≡ some n) ⊎ ((firstFault (streamWalk mode s) ≡ none) × (n ≡ 14))))
+  first-refused = first.first-refused mode s t
+
+  pub refused-alike : {n : ℕ} → searchFirstOf mode s t ≡ refused n → (instance : ℕ) → searchOf mode s t instance ≡ refused n
+  refused-alike = first.refused-alike mode s t
+
+  -- it is shown exactly where it is the first of its type on the walk
+  pub first-shown : (f e : ℕ) → (searchFirstOf mode s t ≡ success (f ∷ e ∷ [])) ↔ first.FirstMatch t (streamWalk mode s) f e
+  first-shown = first.first-shown mode s t
+
+  -- "with a later fault it shows the match and the full one refuses": with a fault in what the walk meets after it; else the full one shows the same
+  pub later-fault : {f e : ℕ} (m : first.FirstMatch t (streamWalk mode s) f e) {n : ℕ} → firstFault (m .rest) ≡ some n
+      → (instance : ℕ) → searchOf mode s t instance ≡ refused n
+  later-fault = first.later-fault mode s t
+
+  pub no-later-fault : {f e : ℕ} (m : first.FirstMatch t (streamWalk mode s) f e) → firstFault (m .rest) ≡ none → searchOf mode s t 0 ≡ success (f ∷ e ∷ [])
+  no-later-fault = first.no-later-fault mode s t
+
+  pub shown-or-fault : {f e : ℕ} → searchFirstOf mode s t ≡ success (f ∷ e ∷ [])
+      → (searchOf mode s t 0 ≡ success (f ∷ e ∷ []))
+      ⊎ ((m : first.FirstMatch t (streamWalk mode s) f e) × (n : ℕ) × (firstFault (m .rest) ≡ some n) × ((instance : ℕ) → searchOf mode s t instance ≡ refused n))
+  shown-or-fault = first.shown-or-fault mode s t
+
+  -- the part that is shown lies inside the stream, and a holder's own fields in it
+  pub first-inside : (f e : ℕ) → searchFirstOf mode s t ≡ success (f ∷ e ∷ []) → (f + decided.ownFields t ≤ e) × (e ≤ length s)
+  first-inside = first.first-inside mode s t
+
+  -- "without walking the rest": the answer depends on no byte after the match's header, which ends, with a holder's own fields, at byte f + ownFields t
+  pub first-stops : (s′ : List ℕ) (f e : ℕ) → searchFirstOf mode s t ≡ success (f ∷ e ∷ []) → length s ≡ length s′
+      → ((i : ℕ) → i < f + decided.ownFields t → getD s i 0 ≡ getD s′ i 0) → searchFirstOf mode s′ t ≡ success (f ∷ e ∷ [])
+  first-stops s′ = stops.first-stops mode s s′ t
+
+  -- nor on what lies in any section that is not opened, after its type's own header, and so not on packed contents
+  pub first-unread : (s′ : List ℕ) → unread.SameBut mode 7 s s′ 0 → searchFirstOf mode s t ≡ searchFirstOf mode s′ t
+  first-unread s′ = unread.first-unread mode s s′ t
+
+  pub first-packed : (s′ : List ℕ) → length s ≡ length s′ → ((i : ℕ) → (unread.OnWalk mode (unread.PackedContents mode) 7 s 0 i → ⊥) → getD s i 0 ≡ getD s′ i 0)
+      → searchFirstOf mode s t ≡ searchFirstOf mode s′ t
+  first-packed s′ = unread.first-packed mode s s′ t
+
+-- the fields of its own that are read of a holder: 5 bytes of a compression section, 20 of a GUID-defined one; of another type, also of a free-form
+-- GUID section, none
+pub own-fields : (decided.ownFields 0x01 ≡ 5) × (decided.ownFields 0x02 ≡ 20) × ((t : ℕ) → (t ≡ 0x01 → ⊥) → (t ≡ 0x02 → ⊥) → decided.ownFields t ≡ 0)
+own-fields = decided.own-fields
+
+-- sections of other types that the walk meets first change nothing
+pub passed-before : (t : ℕ) (before : List Section) (x : Trace) → ofType t before ≡ [] → firstAnswer t (first.after before x) ≡ firstAnswer t x
+passed-before = first.passed-before
+
+-- "the matching section's own faults 201 to 205 lie at the match; its children and padding lie after it": from a start on, the fault there is
+-- answered, and a section of the type is shown whatever its children and its padding are
+module _ (mode : Mode) (t : ℕ) (s : List ℕ) (base at : ℕ) (here : at < length s) where
+  pub own-fault : (n : ℕ) {m : ℕ} → headAt mode s at ≡ Fault m → firstAnswer t (starts.walkFrom mode n s base at) ≡ refused m
+  own-fault = first.own-fault mode t s base at here
+
+  pub own-205 : {u shown f e : ℕ} → headAt mode s at ≡ Open u shown f e → firstAnswer t (starts.walkFrom mode 0 s base at) ≡ refused 205
+  own-205 = first.own-205 mode t s base at here
+
+  pub match-closed : (n : ℕ) {shown e : ℕ} → headAt mode s at ≡ Closed t shown e → firstAnswer t (starts.walkFrom mode n s base at) ≡ success ((base + shown) ∷ (base + e) ∷ [])
+  match-closed = first.match-closed mode t s base at here
+
+  pub match-open : (n : ℕ) {shown f e : ℕ} → headAt mode s at ≡ Open t shown f e
+      → firstAnswer t (starts.walkFrom mode (suc n) s base at) ≡ success ((base + shown) ∷ (base + e) ∷ [])
+  match-open = first.match-open mode t s base at here
+
+-- so the two may differ: a raw section of 4 bytes, then one whose size is 3, which no section has
+pub first-differs : (searchFirstOf Framework (4 ∷ 0 ∷ 0 ∷ 0x19 ∷ 3 ∷ 0 ∷ 0 ∷ 0x19 ∷ []) 0x19 ≡ success (4 ∷ 4 ∷ []))
+    × (searchOf Framework (4 ∷ 0 ∷ 0 ∷ 0x19 ∷ 3 ∷ 0 ∷ 0 ∷ 0x19 ∷ []) 0x19 0 ≡ refused 202)
+unfolding examples
+first-differs = (refl, refl)
 
 -- ---- the two modes
 
@@ -266,6 +354,10 @@ search-as-before = framework.search-as-before
 pub search-modes : (mode mode′ : Mode) (s : List ℕ) (t instance : ℕ) → length s ≤ 16777216 → modes.NoLongField mode 7 s 0
     → searchOf mode s t instance ≡ searchOf mode′ s t instance
 search-modes = modes.search-modes
+
+pub first-modes : (mode mode′ : Mode) (s : List ℕ) (t : ℕ) → length s ≤ 16777216 → modes.NoLongField mode 7 s 0
+    → searchFirstOf mode s t ≡ searchFirstOf mode′ s t
+first-modes = modes.first-modes
 
 -- as every stream in which no three bytes FF follow one another
 pub no-three-bytes : (mode : Mode) (n : ℕ) (s : List ℕ) (at : ℕ) → ((i : ℕ) → getD s i 0 < 256) → modes.NoThree s → modes.NoLongField mode n s at

@@ -1,5 +1,5 @@
--- Searching a section stream (01, "Sections"; 02, i): "the whole tree is tested before a search answers", then the instance of the type
--- asked for is taken from the sections of the walk.
+-- Searching a section stream (01, "Sections"; 02, i and f): "the whole tree is tested before a search answers", then the instance of the type
+-- asked for is taken from the sections of the walk; or the first of a type, without what comes after it.
 use Prim.Native.Nat.{ℕ}
 use mathlib.Core.Path.{_≡_}
 use mathlib.Core.Bool.{cond}
@@ -48,6 +48,18 @@ partAnswer (some x) = success (x .first ∷ x .end ∷ [])
 unfoldable pub searchOf : Mode → List ℕ → (sectionType instance : ℕ) → Answer
 searchOf mode s sectionType instance =
     unlessRefused refused (firstFault (streamWalk mode s)) (partAnswer (getElem? (ofType sectionType (sections (streamWalk mode s))) instance))
+
+-- what a walk meets up to the first section of a type: "a fault at or before the first match in walk order, or any where nothing matches",
+-- or the part of that section, or 14. A section's own faults 201 to 205 stand in the walk instead of it; its children and its padding come
+-- after it
+unfoldable pub firstAnswer : (sectionType : ℕ) → Trace → Answer
+firstAnswer t done = refused 14
+firstAnswer t (fault n) = refused n
+firstAnswer t (section u f e rest) = cond (eqb u t) (success (f ∷ e ∷ [])) (firstAnswer t rest)
+
+-- "a type's first section without walking the rest" (02, f)
+abbrev pub searchFirstOf : Mode → List ℕ → (sectionType : ℕ) → Answer
+searchFirstOf mode s sectionType = firstAnswer sectionType (streamWalk mode s)
 
 -- what the code's `Found` answers: the part's first byte and end, or the refusal
 abbrev pub foundAnswer : Found → Answer

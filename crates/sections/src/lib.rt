@@ -1,5 +1,6 @@
 // Section streams (002), in Framework mode or in that of the PI edition: the types of sections, reading
-// a section header, the walk through a stream and its holders, searching a stream, and appending a leaf.
+// a section header, the walk through a stream and its holders, searching a stream, the first section of a
+// type without the rest, and appending a leaf.
 //
 // No public function here has a `requires`: whatever the bytes are, the answer is a value or one of
 // document 01's refusal numbers. `header` has the mode, which the caller chooses, and no public

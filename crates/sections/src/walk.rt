@@ -1,6 +1,7 @@
 // The walk through a section stream and the holders in it.
 ghost use mathlib.Core.Path.{_≡_};
 ghost use Prim.Native.Nat.{_+_, _<_, _^_};
+ghost use mathlib.Core.Bool.{cond};
 ghost use lib.ListN.{length};
 ghost use Rattle.sections.specs.Walk.{aligned as alignedOf, walk, zeros};
 ghost use Rattle.sections.specs.Seek.{visited, run, carried};
@@ -9,26 +10,33 @@ use crate::header::Mode;
 use crate::header::read_head;
 
 // The words of what the walk carries along: how many sections of the type wanted are still to be
-// passed; and the first byte and the end of the part of the one wanted, which are 0 until it is met.
-pub(crate) const LEFT: usize = 0;
+// passed; the first byte and the end of the part of the one wanted, which are 0 until it is met; and
+// whether the walk stops there, which is 0 where it goes on.
+const LEFT: usize = 0;
 
 pub(crate) const FIRST: usize = 1;
 
 pub(crate) const END: usize = 2;
 
+const STOP: usize = 3;
+
+// What a walk answers that stopped at the section wanted.
+pub(crate) const STOPPED: u16 = 1;
+
 // Walks a stream that starts at byte `base` of the outer one, with `below` levels left below it, and
-// answers the first fault, or 0. What it carries along is lent to it (docs/DECISIONS.md, 69). One pass:
-// each section is read once, and the calls are as deep as the levels.
+// answers the first fault, or STOPPED, or 0 at its end. What it carries along is lent to it
+// (docs/DECISIONS.md, 69 and 73). One pass: each section is read once, and the calls are as deep as the
+// levels.
 pub(crate) fn walk_stream(
     mode: Mode,
     s: &[u8],
     base: usize,
     below: u64,
     want: u8,
-    seek: &mut [u64; 3],
+    seek: &mut [u64; 4],
 ) -> u16
-    requires { ⌜ (base + length (now s) < 2 ^ 63) × (length (now seek) ≡ 3) ⌝ }
-    ensures { λ r. ⌜ (length (now (seek .exit)) ≡ 3)
+    requires { ⌜ (base + length (now s) < 2 ^ 63) × (length (now seek) ≡ 4) ⌝ }
+    ensures { λ r. ⌜ (length (now (seek .exit)) ≡ 4)
         × (carried r (now (seek .exit)) ≡ run want (carried 0 (now (seek .entry))) (walk mode below (now (s .entry)) base)) ⌝ }
 {
     let mut at = 0;
@@ -43,7 +51,9 @@ pub(crate) fn walk_stream(
                 first,
                 end,
             } => {
-                visit(want, section_type, base + first, base + end, seek);
+                if visit(want, section_type, base + first, base + end, seek) {
+                    return STOPPED;
+                }
                 let next = aligned(end);
                 if !zero_bytes(s, end, next - end) {
                     return 207;
@@ -59,7 +69,9 @@ pub(crate) fn walk_stream(
                 if below == 0 {
                     return 205;
                 }
-                visit(want, section_type, base + first, base + end, seek);
+                if visit(want, section_type, base + first, base + end, seek) { // before its children
+                    return STOPPED;
+                }
                 let inner = walk_stream(mode, &s[from..end], base + from, below - 1, want, seek);
                 if inner != 0 {
                     return inner;
@@ -101,23 +113,24 @@ fn zero_bytes(s: &[u8], at: usize, n: usize) -> bool
     true
 }
 
-// At a section of a type whose part is from `first` to `end`.
-fn visit(want: u8, section_type: u8, first: usize, end: usize, seek: &mut [u64; 3])
-    requires { ⌜ (0 < end) × (length (now seek) ≡ 3) ⌝ }
-    ensures { λ _. ⌜ (length (now (seek .exit)) ≡ 3)
-        × (carried 0 (now (seek .exit)) ≡ visited want (carried 0 (now (seek .entry))) «section_type» first end) ⌝ }
+// At a section of a type whose part is from `first` to `end`: whether the walk stops there.
+fn visit(want: u8, section_type: u8, first: usize, end: usize, seek: &mut [u64; 4]) -> bool
+    requires { ⌜ (0 < end) × (length (now seek) ≡ 4) ⌝ }
+    ensures { λ r. ⌜ (length (now (seek .exit)) ≡ 4)
+        × (carried (cond r 1 0) (now (seek .exit)) ≡ visited want (carried 0 (now (seek .entry))) «section_type» first end) ⌝ }
 {
     if section_type != want {
-        return;
+        return false;
     }
     if seek[END] != 0 {
-        return;
+        return false;
     }
     let left = seek[LEFT];
-    if left == 0 {
-        seek[FIRST] = first as u64;
-        seek[END] = end as u64;
-    } else {
+    if left != 0 {
         seek[LEFT] = left - 1;
+        return false;
     }
+    seek[FIRST] = first as u64;
+    seek[END] = end as u64;
+    seek[STOP] != 0
 }

@@ -11,7 +11,7 @@ use Rattle.volume.specs.Attributes.{flag, readDisabledCap, readEnabledCap, read
 unfoldable pub statusBits : ℕ → ℕ
 statusBits edition = cond (eqb edition 2) (readStatus + writeStatus + lockStatus + readLockStatus + writeLockStatus) (readStatus + writeStatus + lockStatus)
 
--- "any bit changed other than" those: they differ also where those are raised in both. Bit by bit: `fixed-bits` and `bits-fixed` (proofs/Theorems)
+-- "any bit changed other than" those: they differ also where those are raised in both. Bit by bit: `fixed-bits` and `bits-fixed` (proofs/Rules)
 unfoldable pub changesFixed : ℕ → ℕ → ℕ → Bool
 changesFixed edition old new = not (eqb (bitOr old (statusBits edition)) (bitOr new (statusBits edition)))
 

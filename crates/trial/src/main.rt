@@ -18,6 +18,7 @@ use crate::script::item;
 use crate::script::number;
 use crate::script::prefix;
 use crate::streams::append_case;
+use crate::streams::first_case;
 use crate::streams::search_case;
 
 // The most bytes of a script. tests/limits builds a program with more, and with a longer VOLUME and ROOM in headers.rt and
@@ -61,6 +62,7 @@ fn one_case(case: &[u8]) {
         5 => append_case(case),
         6 => sum_case(case),
         7 => write_pi_case(case),
-        _ => entry_case(case),
+        8 => entry_case(case),
+        _ => first_case(case),
     }
 }

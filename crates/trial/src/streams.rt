@@ -1,4 +1,4 @@
-// The cases of section streams: searching and appending.
+// The cases of section streams: searching, the first of a type, and appending.
 use crate::print::begin;
 use crate::print::bytes_field;
 use crate::print::change_fields;
@@ -16,6 +16,7 @@ use sections::append::append;
 use sections::header::Mode;
 use sections::search::Found;
 use sections::search::search;
+use sections::search::search_first;
 use std::num::wrapping_sub_usize;
 
 // The most bytes of a section buffer.
@@ -44,11 +45,32 @@ fn called<'a>(mode: u64, framework: &'a [u8], pi: &'a [u8]) -> &'a [u8] {
     if mode == 0 { framework } else { pi }
 }
 
-// The type and instance, the answer, the part's first bytes.
+// The type and instance, and the answer.
 fn search_fields(mode: u64, stream: &[u8], section_type: u8, instance: u64) {
     field(section_type as u64);
     field(instance);
-    let answer = search(mode_of(mode), stream, section_type, instance);
+    found_fields(
+        stream,
+        search(mode_of(mode), stream, section_type, instance),
+    );
+}
+
+// Searching for the first: the stream, the type, and in PI mode the mode.
+pub(crate) fn first_case(case: &[u8]) {
+    let mode = number(case, 4);
+    begin(case, called(mode, b"search first", b"search first pi"));
+    first_fields(mode, item(case, 2), byte_at(item(case, 3), 0));
+    end();
+}
+
+// The type and the answer.
+fn first_fields(mode: u64, stream: &[u8], section_type: u8) {
+    field(section_type as u64);
+    found_fields(stream, search_first(mode_of(mode), stream, section_type));
+}
+
+// The answer, the part's first bytes.
+fn found_fields(stream: &[u8], answer: Found) {
     match answer {
         Found::Part { first, end } => {
             field(0);

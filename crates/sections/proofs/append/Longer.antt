@@ -22,9 +22,9 @@ use Rattle.sections.specs.declared.header.Head.the-variants.{Fault, Clos
 use Rattle.sections.proofs.types.Rows.{both}
 use Rattle.sections.proofs.append.Stores.{length-leafStart, length-added, least-header, header-long, header-short, either-header, long-start, short-start, most-limit}
 use Rattle.sections.proofs.header.Cases.{Whole}
-use Rattle.sections.proofs.header.Decided.{head-same}
+use Rattle.sections.proofs.header.Decided.{own-least, head-same}
 use Rattle.sections.proofs.header.Extent.{is-closed, is-open, closed-within, open-within}
-use Rattle.sections.proofs.header.Sizes.{Fits, pi-long, short-header, short-size, long-header, long-size}
+use Rattle.sections.proofs.header.Sizes.{Fits, header-range, pi-long, short-header, short-size, long-header, long-size}
 use Rattle.sections.proofs.header.Tests.{head-leaf}
 use Rattle.sections.proofs.walk.Padding.{zeros-same, zeros-past, padding-zero, padding-none}
 use Rattle.sections.proofs.walk.Starts.{walkFrom, walk-from-start, walk-end, walk-fault, walk-closed, walk-205, walk-open}
@@ -164,6 +164,8 @@ module _ (mode : Mode) (s : List ℕ) (sectionType : ℕ) (body : List ℕ) wher
   kept-head at w =
       let l = after-length in
       let f = w .fit in
+      let o = own-least (typeAt s at) in
+      let r = header-range mode s at in
       sym (head-same mode s after at (λ i p q. same-before i (omega arith))
       (le-ltb (length s - at) 4 (f .four) ∙ sym (le-ltb (length after - at) 4 (omega arith)))
       (le-ltb (length s - at) (headerLength mode s at) (f .headed) ∙ sym (le-ltb (length after - at) (headerLength mode s at) (omega arith)))

@@ -185,11 +185,11 @@ module _ (mode : Mode) (s : List ℕ) (at : ℕ) where
   pub faults-exactly : (n : ℕ) → (headAt mode s at ≡ Fault n) ↔ FirstFault mode s at n
   faults-exactly n = (applies n, answered n)
 
-  -- in particular no fault is 0
-  pub fault-number : (n : ℕ) → headAt mode s at ≡ Fault n → n ≡ 0 → ⊥
-  fault-number n p zero = go (applies n p)
+  -- in particular no fault is 0 or 1
+  pub fault-number : (n : ℕ) → headAt mode s at ≡ Fault n → 1 < n
+  fault-number n p = go (applies n p)
     where
-      go : FirstFault mode s at n → ⊥
+      go : FirstFault mode s at n → 1 < n
       go (inl (e, a)) = omega arith
       go (inr (inl (e, a, b))) = omega arith
       go (inr (inr (inl (e, a, b, d)))) = omega arith

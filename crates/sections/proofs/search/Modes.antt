@@ -13,7 +13,7 @@ use lib.Seq.{getD-take, getD-drop}
 use Rattle.numbers.specs.LittleEndian.{le}
 use Rattle.sections.specs.Header.{sizeField, largestField, sizeFaults, headFaults, headAt}
 use Rattle.sections.specs.Walk.{Trace, done, fault, section, andThen, aligned, zeros, part, afterPadding, meet, siblings, walk, streamLimit, streamWalk}
-use Rattle.sections.specs.Search.{firstFault, searchOf}
+use Rattle.sections.specs.Search.{firstFault, searchOf, firstAnswer, searchFirstOf}
 use Rattle.sections.specs.declared.header.Mode.{Mode}
 use Rattle.sections.specs.declared.header.Mode.the-variants.{Framework, Pi}
 use Rattle.sections.specs.declared.header.Head.{Head}
@@ -125,10 +125,9 @@ walk-modes mode mode′ (suc n) s base unmet =
     siblings-modes mode mode′ (suc n) (walk mode n) (walk mode′ n) (next-level mode mode′ n (λ l b x. walk-modes mode mode′ n l b x)) (length s) s base 0 unmet
 
 -- so on a stream within 16 MiB both modes give every search the same answer; it does not matter whose walk is looked at
-pub search-modes : (mode mode′ : Mode) (s : List ℕ) (t instance : ℕ) → length s ≤ 16777216 → NoLongField mode 7 s 0
-    → searchOf mode s t instance ≡ searchOf mode′ s t instance
-unfolding searchOf streamWalk streamLimit
-search-modes mode mode′ s t instance short unmet =
+stream-modes : (mode mode′ : Mode) (s : List ℕ) → length s ≤ 16777216 → NoLongField mode 7 s 0 → streamWalk mode s ≡ streamWalk mode′ s
+unfolding streamWalk streamLimit
+stream-modes mode mode′ s short unmet =
     rw (
       le-ltb (streamLimit mode) (length s) (within mode short),
       le-ltb (streamLimit mode′) (length s) (within mode′ short),
@@ -138,6 +137,15 @@ search-modes mode mode′ s t instance short unmet =
     within : (mode : Mode) → length s ≤ 16777216 → length s ≤ streamLimit mode
     within Framework h = h
     within Pi h = omega arith
+
+pub search-modes : (mode mode′ : Mode) (s : List ℕ) (t instance : ℕ) → length s ≤ 16777216 → NoLongField mode 7 s 0
+    → searchOf mode s t instance ≡ searchOf mode′ s t instance
+unfolding searchOf
+search-modes mode mode′ s t instance short unmet = rw (stream-modes mode mode′ s short unmet)
+
+pub first-modes : (mode mode′ : Mode) (s : List ℕ) (t : ℕ) → length s ≤ 16777216 → NoLongField mode 7 s 0
+    → searchFirstOf mode s t ≡ searchFirstOf mode′ s t
+first-modes mode mode′ s t short unmet = ap (firstAnswer t) (stream-modes mode mode′ s short unmet)
 
 -- in particular a stream in which no three bytes FF follow one another
 abbrev pub NoThree : List ℕ → Type 0

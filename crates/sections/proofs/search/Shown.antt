@@ -13,10 +13,10 @@ use lib.ListN.{length, getElem?}
 use Rattle.common.specs.Answers.{refused, success, numberOf}
 use Rattle.common.specs.Refusals.{unlessRefused}
 use Rattle.sections.specs.Walk.{Trace, done, fault, section, walk, streamLimit, streamWalk}
-use Rattle.sections.specs.Seek.{Seek, run, carried}
+use Rattle.sections.specs.Seek.{Seek, Left, halted, run, carried, seekAnswer}
 use Rattle.sections.specs.Search.{Section, sections, firstFault, ofType, partAnswer, searchOf, WellFormed, countOf}
 use Rattle.sections.specs.declared.header.Mode.{Mode}
-use Rattle.sections.proofs.walk.Carried.{seekAnswer, words-start, run-answer}
+use Rattle.sections.proofs.walk.Carried.{words-start, run-answer}
 use Rattle.sections.proofs.walk.Inside.{Inside, inside-walk}
 
 -- a section of a type on the walk lies where the walk does
@@ -33,7 +33,8 @@ inside-nth low high w i (section t f e rest) x p q = go (eqb t w) i q (λ (j : �
         → (low ≤ x .first) × (x .first ≤ x .end) × (x .end ≤ high)
     go true zero q ih =
         let same : _≡_ {A = Section} (record { sectionType = t; first = f; end = e }) x = cc in
-        rw (← same) (p .0, p .1, p .2)
+        let own = p .1 in
+        rw (← same) (p .0, omega arith, p .2)
     go true (suc j) q ih = ih j q
     go false i q ih = ih i q
 
@@ -50,7 +51,7 @@ nth-below [] i h = absurd (omega arith)
 nth-below (x ∷ l) zero h = (x, refl)
 nth-below (x ∷ l) (suc i) h = nth-below l i (omega arith)
 
-nth-past : (l : List Section) (i : ℕ) → length l ≤ i → getElem? l i ≡ none
+pub nth-past : (l : List Section) (i : ℕ) → length l ≤ i → getElem? l i ≡ none
 nth-past [] i h = refl
 nth-past (x ∷ l) zero h = absurd (omega arith)
 nth-past (x ∷ l) (suc i) h = nth-past l i (omega arith)
@@ -61,11 +62,18 @@ module _ (mode : Mode) where
   unfolding searchOf streamWalk firstFault
   search-206 s t instance h = rw (lt-ltb (streamLimit mode) (length s) h)
 
-  pub search-walk : (s : List ℕ) (t instance : ℕ) {below base : ℕ} {a : Seek} → a ≡ run t (carried 0 (instance ∷ 0 ∷ 0 ∷ [])) (walk mode below s base)
-      → below ≡ 7 → base ≡ 0 → length s ≤ streamLimit mode → seekAnswer a ≡ searchOf mode s t instance
-  unfolding searchOf streamWalk
-  search-walk s t instance walked l b h =
-      rw (walked, words-start instance, l, b, le-ltb (streamLimit mode) (length s) h) (run-answer t instance (walk mode 7 s 0))
+  pub sought-206 : (s : List ℕ) (w stop i : ℕ) → streamLimit mode < length s → refused 206 ≡ seekAnswer (run w (Left stop i) (streamWalk mode s))
+  unfolding streamWalk run halted seekAnswer
+  sought-206 s w stop i h = rw (lt-ltb (streamLimit mode) (length s) h)
+
+  pub sought-walk : (s : List ℕ) (w stop i : ℕ) {below base : ℕ} {a : Seek} → a ≡ run w (carried 0 (i ∷ 0 ∷ 0 ∷ stop ∷ [])) (walk mode below s base)
+      → below ≡ 7 → base ≡ 0 → length s ≤ streamLimit mode → seekAnswer a ≡ seekAnswer (run w (Left stop i) (streamWalk mode s))
+  unfolding streamWalk
+  sought-walk s w stop i walked l b h = rw (walked, words-start stop i, l, b, le-ltb (streamLimit mode) (length s) h)
+
+  pub search-from : (s : List ℕ) (t instance : ℕ) → seekAnswer (run t (Left 0 instance) (streamWalk mode s)) ≡ searchOf mode s t instance
+  unfolding searchOf
+  search-from s t instance = run-answer t instance (streamWalk mode s)
 
   -- the walk through a whole stream, by the test of 206
   abbrev limited : Bool → List ℕ → Trace

@@ -1,26 +1,25 @@
--- Bytes that no search reads: two streams of one length that agree outside what follows the own header of sections that are not opened
+-- Bytes that neither search reads: two streams of one length that agree outside what follows the own header of sections that are not opened
 -- (leaves, and holders with packed contents), on every level, give the same walk and the same answers. What lies inside packed contents
 -- changes no answer.
 use Prim.Native.Nat.{ℕ, zero, suc, _+_, _-_, _≤_, _<_}
-use mathlib.Core.Path.{_≡_, refl, sym, ap, subst, _∙_}
-use mathlib.Core.Bool.{Bool, true, false}
+use mathlib.Core.Path.{_≡_, refl, ap, subst}
+use mathlib.Core.Bool.{true}
 use mathlib.Core.List.{List}
 use mathlib.Core.Logic.{_⊎_, inl, inr}
 use native.Mathlib.Omega.{arith}
-use borrow.Author.Tests.{ltb-true, ltb-false}
 use lib.Dec.{ltb}
-use lib.ListN.{length, getD, drop, length-take, length-drop, List·getD-eq-default}
-use lib.Seq.{getD-take, getD-drop}
+use lib.ListN.{length, getD, length-take, length-drop}
 use Rattle.sections.specs.Types.{typeInfo}
 use Rattle.sections.specs.Header.{headerLength, sizeAt, typeAt, leastSize, isHolder, contentsAt, packed, headAt}
 use Rattle.sections.specs.Walk.{Trace, done, aligned, zeros, part, afterPadding, meet, siblings, walk, streamWalk}
-use Rattle.sections.specs.Search.{searchOf}
+use Rattle.sections.specs.Search.{searchOf, firstAnswer, searchFirstOf}
 use Rattle.sections.specs.declared.header.Head.{Head}
 use Rattle.sections.specs.declared.header.Head.the-variants.{Fault, Closed, Open}
 use Rattle.sections.specs.declared.header.Mode.{Mode}
-use Rattle.sections.proofs.header.Decided.{head-same}
+use Rattle.sections.proofs.header.Decided.{own-least, head-same}
+use Rattle.sections.proofs.header.Sizes.{header-range}
 use Rattle.sections.proofs.header.Extent.{is-closed, is-open, closed-within, open-within, contents-within}
-use Rattle.sections.proofs.walk.Padding.{zeros-same}
+use Rattle.sections.proofs.walk.Padding.{zeros-same, part-byte}
 
 module _ (mode : Mode) where
   -- byte i of a stream is one that P names of some section at the starts that follow one another from byte `at` on, whatever faults
@@ -135,7 +134,7 @@ module _ (mode : Mode) where
   module _ (n : ℕ) (s s′ : List ℕ) (at : ℕ) (b : SameBut n s s′ at) where
     same-head : headAt mode s at ≡ headAt mode s′ at
     same-head =
-        head-same mode s s′ at (λ i p q. b .bytes i p (λ u. let r = unread-range u in omega arith))
+        head-same mode s s′ at (λ i p q. b .bytes i p (λ u. let r = unread-range u in let o = own-least (typeAt s at) in let h = header-range mode s at in omega arith))
         (ap (λ (l : ℕ). ltb (l - at) 4) (b .long)) (ap (λ (l : ℕ). ltb (l - at) (headerLength mode s at)) (b .long))
         (ap (λ (l : ℕ). ltb (l - at) (sizeAt mode s at)) (b .long))
 
@@ -151,7 +150,7 @@ module _ (mode : Mode) where
 
     -- the contents of a holder, as streams of their own
     open-contents : (m t first f e : ℕ) → n ≡ suc m → headAt mode s at ≡ Open t first f e → SameBut m (part f e s) (part f e s′) 0
-    open-contents m t first f e z h = record { long = simp (length-take, length-drop) (rw (b .long)); bytes = λ j p x. go j x (ltb j (e - f)) refl }
+    open-contents m t first f e z h = record { long = simp (length-take, length-drop) (rw (b .long)); bytes = λ j p x. part-byte f e s s′ j (λ a. let w = open-within mode s at h in b .bytes (f + j) (omega arith) (λ u. other j a x (unread-open t first f e h u))) }
       where
         other : (j : ℕ) → j < e - f → (Unread m (part f e s) 0 j → ⊥)
             → ((k : ℕ) × (j′ : ℕ) × (n ≡ suc k) × (f + j ≡ f + j′) × Unread k (part f e s) 0 j′) ⊎ Unread n s (aligned e) (f + j) → ⊥
@@ -162,18 +161,6 @@ module _ (mode : Mode) where
             let k-same : y .0 ≡ m = omega (arith, y .2) in
             x (rw (j-same, k-same) at (y .4))
         other j a x (inr u) = let w = open-within mode s at h in let r = unread-range u in omega arith
-
-        go : (j : ℕ) → (Unread m (part f e s) 0 j → ⊥) → (c : Bool) → ltb j (e - f) ≡ c → getD (part f e s) j 0 ≡ getD (part f e s′) j 0
-        go j x true c =
-            let a = ltb-true j (e - f) c in
-            let w = open-within mode s at h in
-            rw (getD-take (e - f) (drop f s) j 0 a, getD-take (e - f) (drop f s′) j 0 a, getD-drop, getD-drop)
-            (b .bytes (f + j) (omega arith) (λ u. other j a x (unread-open t first f e h u)))
-        go j x false c =
-            let a = ltb-false j (e - f) c in
-            let l : length (part f e s) ≤ j = simp length-take (omega arith) in
-            let l′ : length (part f e s′) ≤ j = simp length-take (omega arith) in
-            List·getD-eq-default (part f e s) 0 {n = j} l ∙ sym (List·getD-eq-default (part f e s′) 0 {n = j} l′)
 
   module _ (n : ℕ) (inner : List ℕ → ℕ → Trace)
       (below : (m : ℕ) (l l′ : List ℕ) (b : ℕ) → n ≡ suc m → SameBut m l l′ 0 → inner l b ≡ inner l′ b) where
@@ -218,13 +205,25 @@ module _ (mode : Mode) where
       rw (← b .long) (siblings-unread (suc n) (walk mode n)
       (λ m l l′ c z x. walk-unread n l l′ c (let e : m ≡ n = omega arith in rw e at x)) (length s) s s′ base 0 b)
 
-  -- nor does any search
+  stream-unread : (s s′ : List ℕ) → SameBut 7 s s′ 0 → streamWalk mode s ≡ streamWalk mode s′
+  unfolding streamWalk
+  stream-unread s s′ b = rw (← b .long, walk-unread 7 s s′ 0 b)
+
+  -- nor does any search, nor the search for the first
   pub search-unread : (s s′ : List ℕ) (t instance : ℕ) → SameBut 7 s s′ 0 → searchOf mode s t instance ≡ searchOf mode s′ t instance
-  unfolding searchOf streamWalk
-  search-unread s s′ t instance b = rw (← b .long, walk-unread 7 s s′ 0 b)
+  unfolding searchOf
+  search-unread s s′ t instance b = rw (stream-unread s s′ b)
+
+  pub first-unread : (s s′ : List ℕ) (t : ℕ) → SameBut 7 s s′ 0 → searchFirstOf mode s t ≡ searchFirstOf mode s′ t
+  first-unread s s′ t b = ap (firstAnswer t) (stream-unread s s′ b)
 
   -- in particular, bytes inside packed contents change no answer
-  pub search-packed : (s s′ : List ℕ) (t instance : ℕ) → length s ≡ length s′
-      → ((i : ℕ) → (OnWalk PackedContents 7 s 0 i → ⊥) → getD s i 0 ≡ getD s′ i 0) → searchOf mode s t instance ≡ searchOf mode s′ t instance
-  search-packed s s′ t instance long same =
-      search-unread s s′ t instance (record { long = long; bytes = λ i p x. same i (λ u. x (packed-unread u)) })
+  module _ (s s′ : List ℕ) (t : ℕ) (long : length s ≡ length s′) (same : (i : ℕ) → (OnWalk PackedContents 7 s 0 i → ⊥) → getD s i 0 ≡ getD s′ i 0) where
+    same-but : SameBut 7 s s′ 0
+    same-but = record { long = long; bytes = λ i p x. same i (λ u. x (packed-unread u)) }
+
+    pub search-packed : (instance : ℕ) → searchOf mode s t instance ≡ searchOf mode s′ t instance
+    search-packed instance = search-unread s s′ t instance same-but
+
+    pub first-packed : searchFirstOf mode s t ≡ searchFirstOf mode s′ t
+    first-packed = first-unread s s′ t same-but

@@ -7,17 +7,18 @@ use native.Mathlib.Omega.{arith}
 use lib.Dec.{eqb, ltb}
 use lib.ListN.{length, length-take}
 use Rattle.sections.specs.Header.{headAt}
-use Rattle.sections.specs.Walk.{Trace, done, fault, section, andThen, aligned, zeros, part, afterPadding, meet, siblings, walk}
+use Rattle.sections.specs.Walk.{Trace, done, fault, section, andThen, aligned, zeros, part, afterPadding, meet, siblings, walk, streamLimit, streamWalk}
 use Rattle.sections.specs.declared.header.Head.{Head}
 use Rattle.sections.specs.declared.header.Head.the-variants.{Fault, Closed, Open}
 use Rattle.sections.specs.declared.header.Mode.{Mode}
+use Rattle.sections.proofs.header.Decided.{ownFields, own-least}
 use Rattle.sections.proofs.header.Extent.{closed-within, open-within}
 
--- every section of a trace lies between two places
+-- every section of a trace lies between two places, and a holder's own fields in it
 abbrev pub Inside : (low high : ℕ) → Trace → Type 0
 Inside low high done = Unit {0}
 Inside low high (fault n) = Unit {0}
-Inside low high (section t f e rest) = (low ≤ f) × (f ≤ e) × (e ≤ high) × Inside low high rest
+Inside low high (section t f e rest) = (low ≤ f) × (f + ownFields t ≤ e) × (e ≤ high) × Inside low high rest
 
 inside-then : (low high : ℕ) (t u : Trace) → Inside low high t → Inside low high u → Inside low high (andThen t u)
 unfolding andThen
@@ -48,6 +49,7 @@ module _ (mode : Mode) where
     inside-meet at rest (Fault m) p q = tt
     inside-meet at rest (Closed t first e) p q =
         let w = closed-within mode s at p in
+        let o = own-least t in
         (omega arith, omega arith, omega arith, inside-padding base (base + length s) s e rest (q (aligned e)))
     inside-meet at rest (Open t first f e) p q = go (eqb n 0)
       where
@@ -56,6 +58,7 @@ module _ (mode : Mode) where
         go true = tt
         go false =
             let w = open-within mode s at p in
+            let o = own-least t in
             let l : length (part f e s) ≤ e - f = simp length-take (omega arith) in (
               omega arith,
               omega arith,
@@ -82,3 +85,12 @@ module _ (mode : Mode) where
   unfolding walk
   inside-walk zero s base = inside-siblings 0 (λ l b. done) (λ l b. tt) s base (length s) 0
   inside-walk (suc n) s base = inside-siblings (suc n) (walk mode n) (inside-walk n) s base (length s) 0
+
+-- so does the walk through a whole stream
+pub inside-stream : (mode : Mode) (s : List ℕ) → Inside 0 (length s) (streamWalk mode s)
+unfolding streamWalk
+inside-stream mode s = go (ltb (streamLimit mode) (length s))
+  where
+    go : (b : Bool) → Inside 0 (length s) (cond b (fault 206) (walk mode 7 s 0))
+    go true = tt
+    go false = let z : 0 + length s ≡ length s = omega arith in rw z at (inside-walk mode 7 s 0)

@@ -6,11 +6,11 @@ use mathlib.Core.List.{List}
 use native.Mathlib.Omega.{arith}
 use lib.ListN.{length}
 use Rattle.sections.specs.Header.{headAt}
-use Rattle.sections.specs.Walk.{aligned, zeros, part, afterPadding, walk}
-use Rattle.sections.specs.Seek.{Seek, Refused, visited, halted, run}
+use Rattle.sections.specs.Walk.{andThen, aligned, zeros, part, afterPadding, walk}
+use Rattle.sections.specs.Seek.{Seek, visited, halted, run}
 use Rattle.sections.specs.declared.header.Head.the-variants.{Fault, Closed, Open}
 use Rattle.sections.specs.declared.header.Mode.{Mode}
-use Rattle.sections.proofs.walk.Carried.{run-refused, run-then}
+use Rattle.sections.proofs.walk.Carried.{Ended, run-then}
 use Rattle.sections.proofs.walk.Padding.{padding-zero, padding-207}
 use Rattle.sections.proofs.walk.Starts.{walkFrom, walk-from-start, walk-end, walk-fault, walk-closed, walk-205, walk-open}
 
@@ -35,44 +35,55 @@ module _ (mode : Mode) where
 
       -- b: after the section itself
       module _ {t first e shown end : ℕ} {b : Seek} (h : headAt mode s at ≡ Closed t first e) (v : b ≡ visited w a t shown end) (f : shown ≡ base + first)
-          (l : end ≡ base + e) {next : ℕ} (up : next ≡ aligned e) where
+          (l : end ≡ base + e) where
         turn-closed-any : x ≡ run w b (afterPadding s e (walkFrom mode n s base))
         unfolding run
         turn-closed-any = rw (v, f, l) (g .same ∙ ap (run w a) (walk-closed mode n s base at here h))
 
-        pub turn-closed : zeros s e (next - e) ≡ true → Going n s base w x b next
-        turn-closed z = record { same = rw up (rw (padding-zero s e (walkFrom mode n s base) (rw up at z)) at turn-closed-any) }
+        -- the walk stops at it, or goes on
+        pub turn-closed-stop : Ended w b → b ≡ x
+        turn-closed-stop ended = sym (turn-closed-any ∙ ended _)
 
-        pub turn-closed-207 : {r : Seek} → zeros s e (next - e) ≡ false → r ≡ halted 207 b → r ≡ x
+        pub turn-closed : {next : ℕ} → next ≡ aligned e → zeros s e (next - e) ≡ true → Going n s base w x b next
+        turn-closed up z = record { same = rw up (rw (padding-zero s e (walkFrom mode n s base) (rw up at z)) at turn-closed-any) }
+
+        pub turn-closed-207 : {next : ℕ} {r : Seek} → next ≡ aligned e → zeros s e (next - e) ≡ false → r ≡ halted 207 b → r ≡ x
         unfolding run
-        turn-closed-207 z p = p ∙ sym (rw (padding-207 s e (walkFrom mode n s base) (rw up at z)) at turn-closed-any)
+        turn-closed-207 up z p = p ∙ sym (rw (padding-207 s e (walkFrom mode n s base) (rw up at z)) at turn-closed-any)
 
       pub turn-205 : {t first f e : ℕ} {r : Seek} → headAt mode s at ≡ Open t first f e → n ≡ 0 → r ≡ halted 205 a → r ≡ x
       unfolding run
       turn-205 h z p = p ∙ sym (rw (z, walk-205 mode s base at here h) at (g .same))
 
       -- b: after the holder itself; d: after its children, run from b
-      module _ {t first f e shown end k inner : ℕ} {b d : Seek} (h : headAt mode s at ≡ Open t first f e) (deep : n ≡ 0 → ⊥) (v : b ≡ visited w a t shown end)
-          (fb : shown ≡ base + first) (l : end ≡ base + e) (children : d ≡ run w b (walk mode k (part f e s) inner)) (below : k ≡ n - 1) (ib : inner ≡ base + f) where
-        turn-open : x ≡ run w d (afterPadding s e (walkFrom mode n s base))
+      module _ {t first f e shown end : ℕ} {b : Seek} (h : headAt mode s at ≡ Open t first f e) (deep : n ≡ 0 → ⊥) (v : b ≡ visited w a t shown end)
+          (fb : shown ≡ base + first) (l : end ≡ base + e) where
+        turn-holder : x ≡ run w b (andThen (walk mode (n - 1) (part f e s) (base + f)) (afterPadding s e (walkFrom mode n s base)))
         unfolding run
-        turn-open =
+        turn-holder =
             let above : suc (n - 1) ≡ n = omega arith in
-            let after = afterPadding s e (walkFrom mode n s base) in
-            let inside = walk mode (n - 1) (part f e s) (base + f) in
-            let met = visited w a t (base + first) (base + e) in
-            let same : d ≡ run w met inside = rw (v, below, ib, fb, l) at children in
-            g .same
-            ∙ ap (run w a) (rw above at (walk-open mode (n - 1) s base at here h))
-            ∙ run-then w met inside after
-            ∙ ap (λ (y : Seek). run w y after) (sym same)
+            rw (v, fb, l) (g .same ∙ ap (run w a) (rw above at (walk-open mode (n - 1) s base at here h)))
 
-        pub turn-children : {m : ℕ} → d ≡ Refused m → Refused m ≡ x
-        turn-children r = sym (rw (r, run-refused) at turn-open)
+        pub turn-open-stop : Ended w b → b ≡ x
+        turn-open-stop ended = sym (turn-holder ∙ ended _)
 
-        pub turn-open-next : {next : ℕ} → next ≡ aligned e → zeros s e (next - e) ≡ true → Going n s base w x d next
-        turn-open-next up z = record { same = rw up (rw (padding-zero s e (walkFrom mode n s base) (rw up at z)) at turn-open) }
+        module _ {k inner : ℕ} {d : Seek} (children : d ≡ run w b (walk mode k (part f e s) inner)) (below : k ≡ n - 1) (ib : inner ≡ base + f) where
+          turn-open : x ≡ run w d (afterPadding s e (walkFrom mode n s base))
+          turn-open =
+              let after = afterPadding s e (walkFrom mode n s base) in
+              let inside = walk mode (n - 1) (part f e s) (base + f) in
+              let same : d ≡ run w b inside = rw (below, ib) at children in
+              turn-holder
+              ∙ run-then w b inside after
+              ∙ ap (λ (y : Seek). run w y after) (sym same)
 
-        pub turn-open-207 : {next : ℕ} {r : Seek} → next ≡ aligned e → zeros s e (next - e) ≡ false → r ≡ halted 207 d → r ≡ x
-        unfolding run
-        turn-open-207 up z p = p ∙ sym (rw (padding-207 s e (walkFrom mode n s base) (rw up at z)) at turn-open)
+          -- it ended there
+          pub turn-children : Ended w d → d ≡ x
+          turn-children ended = sym (turn-open ∙ ended _)
+
+          pub turn-open-next : {next : ℕ} → next ≡ aligned e → zeros s e (next - e) ≡ true → Going n s base w x d next
+          turn-open-next up z = record { same = rw up (rw (padding-zero s e (walkFrom mode n s base) (rw up at z)) at turn-open) }
+
+          pub turn-open-207 : {next : ℕ} {r : Seek} → next ≡ aligned e → zeros s e (next - e) ≡ false → r ≡ halted 207 d → r ≡ x
+          unfolding run
+          turn-open-207 up z p = p ∙ sym (rw (padding-207 s e (walkFrom mode n s base) (rw up at z)) at turn-open)

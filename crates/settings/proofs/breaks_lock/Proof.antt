@@ -1,4 +1,4 @@
--- `block_service::settings::breaks_lock` meets its contract: the tests are the rule's.
+-- `settings::breaks_lock` meets its contract: the tests are the rule's.
 use mathlib.Core.Bool.{true, not}
 use mathlib.Core.Path.{_≡_, sym, ap, _∙_}
 use borrow.Author.Tests.{not-true, not-false}

@@ -1,4 +1,4 @@
--- `block_service::settings::changes_any_locked` meets its contract.
+-- `settings::changes_any_locked` meets its contract.
 use mathlib.Core.Path.{_≡_, sym, _∙_}
 use borrow.Author.Needs.{needs}
 use Rattle.volume.specs.Attributes.{flag, lockStatus}

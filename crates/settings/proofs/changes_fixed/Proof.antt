@@ -1,4 +1,4 @@
--- `block_service::settings::changes_fixed` meets its contract: the statuses are raised in both.
+-- `settings::changes_fixed` meets its contract: the statuses are raised in both.
 use Rattle.settings.specs.Settings.{changesFixed}
 use Rattle.settings.proofs.Rules.{differ-comm}
 use borrow.Author.Needs.{needs}

@@ -1,4 +1,4 @@
--- `block_service::settings::changes_locked` meets its contract: the general lock, then each status's.
+-- `settings::changes_locked` meets its contract: the general lock, then each status's.
 use Rattle.settings.proofs.Rules.{any-locked, other-locked, read-locked, write-locked}
 use borrow.Author.Needs.{needs}
 use Rattle.settings.proofs.changes_locked.Statement.{statement}

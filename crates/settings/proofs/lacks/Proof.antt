@@ -1,4 +1,4 @@
--- `block_service::settings::lacks` meets its contract.
+-- `settings::lacks` meets its contract.
 use mathlib.Core.Path.{sym}
 use mathlib.Core.Bool.{not, or-false}
 use borrow.Author.Needs.{needs}

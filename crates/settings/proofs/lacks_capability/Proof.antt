@@ -1,4 +1,4 @@
--- `block_service::settings::lacks_capability` meets its contract: the shared statuses, then the locks of edition 2.
+-- `settings::lacks_capability` meets its contract: the shared statuses, then the locks of edition 2.
 use mathlib.Core.Path.{_≡_, sym, _∙_}
 use Rattle.settings.proofs.Rules.{readLockLacking, writeLockLacking, other-lacks, shared-lacks, read-lock-lacks, write-lock-lacks}
 use borrow.Author.Needs.{needs}

@@ -1,4 +1,4 @@
--- `block_service::settings::lacks_shared` meets its contract.
+-- `settings::lacks_shared` meets its contract.
 use mathlib.Core.Path.{_≡_}
 use borrow.Author.Needs.{needs}
 use Rattle.settings.proofs.Rules.{readLacking, writeLacking, lockLacking, read-lacks, write-lacks, lock-lacks}

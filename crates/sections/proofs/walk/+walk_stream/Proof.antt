@@ -15,8 +15,9 @@ use Rattle.sections.specs.Seek.{run, carried}
 use Rattle.sections.specs.Walk.{walk}
 use Rattle.sections.proofs.header.Cases.{fault-number}
 use Rattle.sections.proofs.header.Extent.{closed-within, open-within}
-use Rattle.sections.proofs.walk.Carried.{carried-refused, carried-fault}
-use Rattle.sections.proofs.walk.Turns.{Going, going-start, going-end, turn-fault, turn-closed, turn-closed-207, turn-205, turn-children, turn-open-next, turn-open-207}
+use Rattle.sections.proofs.walk.Carried.{ended, carried-fault}
+use Rattle.sections.proofs.walk.Turns.{Going, going-start, going-end, turn-fault, turn-closed-stop, turn-closed, turn-closed-207, turn-205, turn-open-stop}
+use Rattle.sections.proofs.walk.Turns.{turn-children, turn-open-next, turn-open-207}
 use Rattle.sections.proofs.walk.+walk_stream.{statement}
 use Rattle.sections.proofs.walk.+walk_stream.Tie.{close}
 use Rattle.sections.proofs.walk.walk_stream.Reads as own
@@ -54,7 +55,7 @@ R t = (
 
 abbrev Inv : lts.InvT-loop
 Inv mode s base below want seek₀ at₀ seek at =
-    (length seek ≡ 3) × Going mode below s base want (run want (carried 0 seek₀) (walk mode below s base)) (carried 0 seek) at
+    (length seek ≡ 4) × Going mode below s base want (run want (carried 0 seek₀) (walk mode below s base)) (carried 0 seek) at
 
 abbrev μ : lts.MeasureT-loop
 μ mode s base below want seek₀ at₀ seek at = length s - at
@@ -98,9 +99,19 @@ visit-requires t c κs =
     let w = closed-within _ _ _ (sym (closed .before .before .read-head .ensures) ∙ closed .head2 .given .1) in
     (omega arith, closed .before .before .before .before .loop .inv .0)
 
+returns-2 : (t : ℕ) → lts.Need-returns-2 (R t) (At t) own.Post Inv μ
+returns-2 t c =
+    let met = c .before in
+    let closed = met .before .before .before in
+    let turn = closed .before .before .before in (
+      met .visit .ensures .0,
+      turn-closed-stop _ (turn .before .loop .inv .1) (search needs) (sym (closed .before .before .read-head .ensures) ∙ closed .head2 .given .1)
+          (rw (c .if1 .taken) at (met .visit .ensures .1)) (search needs) (search needs) (ended _ _ _ (λ z. omega arith)),
+    )
+
 aligned-requires : (t : ℕ) → lts.Need-aligned-requires (R t) (At t) own.Post Inv μ
 aligned-requires t c κs =
-    let closed = c .before .before .before in
+    let closed = c .before .before .before .before in
     let w = closed-within _ _ _ (sym (closed .before .before .read-head .ensures) ∙ closed .head2 .given .1) in
     omega arith
 
@@ -110,22 +121,22 @@ sub-zero-bytes t c = search needs
 zero-bytes-requires : (t : ℕ) → lts.Need-zero-bytes-requires (R t) (At t) own.Post Inv μ
 zero-bytes-requires t c κs = search needs
 
-returns-2 : (t : ℕ) → lts.Need-returns-2 (R t) (At t) own.Post Inv μ
-returns-2 t c =
+returns-3 : (t : ℕ) → lts.Need-returns-3 (R t) (At t) own.Post Inv μ
+returns-3 t c =
     let next = c .before .before in
-    let met = next .before in
+    let met = next .before .before in
     let closed = met .before .before .before in
     let turn = closed .before .before .before in (
       met .visit .ensures .0,
       turn-closed-207 _ (turn .before .loop .inv .1) (search needs) (sym (closed .before .before .read-head .ensures) ∙ closed .head2 .given .1)
-          (met .visit .ensures .1) (search needs) (search needs) (next .aligned .ensures)
-          (sym (c .before .zero-bytes .ensures) ∙ not-true _ (c .if1 .taken)) (carried-fault _ _ (λ z. omega arith)),
+          (rw (next .before .if1 .left) at (met .visit .ensures .1)) (search needs) (search needs) (next .aligned .ensures)
+          (sym (c .before .zero-bytes .ensures) ∙ not-true _ (c .if2 .taken)) (carried-fault _ _ (omega arith)),
     )
 
 loop-less : (t : ℕ) → lts.Need-loop-less (R t) (At t) own.Post Inv μ
 loop-less t c =
     let next = c .before .before in
-    let closed = next .before .before .before .before in
+    let closed = next .before .before .before .before .before in
     let w = closed-within _ _ _ (sym (closed .before .before .read-head .ensures) ∙ closed .head2 .given .1) in
     let up = next .aligned .ensures in
     omega arith
@@ -133,25 +144,25 @@ loop-less t c =
 loop-again : (t : ℕ) → lts.Need-loop-again (R t) (At t) own.Post Inv μ
 loop-again t c =
     let next = c .before .before in
-    let met = next .before in
+    let met = next .before .before in
     let closed = met .before .before .before in
     let turn = closed .before .before .before in (
       met .visit .ensures .0,
       turn-closed _ (turn .before .loop .inv .1) (search needs) (sym (closed .before .before .read-head .ensures) ∙ closed .head2 .given .1)
-          (met .visit .ensures .1) (search needs) (search needs) (next .aligned .ensures)
-          (sym (c .before .zero-bytes .ensures) ∙ not-false _ (c .if1 .left)),
+          (rw (next .before .if1 .left) at (met .visit .ensures .1)) (search needs) (search needs) (next .aligned .ensures)
+          (sym (c .before .zero-bytes .ensures) ∙ not-false _ (c .if2 .left)),
     )
 
 enum-known-head-3 : (t : ℕ) → lts.Need-enum-known-head-3 (R t) (At t) own.Post Inv μ
 enum-known-head-3 t c = search needs
 
-returns-3 : (t : ℕ) → lts.Need-returns-3 (R t) (At t) own.Post Inv μ
-returns-3 t c =
+returns-4 : (t : ℕ) → lts.Need-returns-4 (R t) (At t) own.Post Inv μ
+returns-4 t c =
     let opened = c .before .before in
     let turn = opened .before .before .before in (
       turn .before .loop .inv .0,
       turn-205 _ (turn .before .loop .inv .1) (search needs) (sym (opened .before .before .read-head .ensures) ∙ opened .head3 .given .1) (search needs)
-          (carried-fault _ _ (λ z. omega arith)),
+          (carried-fault _ _ (omega arith)),
     )
 
 add-visit-3 : (t : ℕ) → lts.Need-add-visit-3 (R t) (At t) own.Post Inv μ
@@ -172,27 +183,37 @@ visit-requires-2 t c κs =
     let w = open-within _ _ _ (sym (opened .before .before .read-head .ensures) ∙ opened .head3 .given .1) in
     (omega arith, opened .before .before .before .before .loop .inv .0)
 
+returns-5 : (t : ℕ) → lts.Need-returns-5 (R t) (At t) own.Post Inv μ
+returns-5 t c =
+    let met = c .before in
+    let opened = met .before .before .before .before in
+    let turn = opened .before .before .before in (
+      met .visit2 .ensures .0,
+      turn-open-stop _ (turn .before .loop .inv .1) (search needs) (sym (opened .before .before .read-head .ensures) ∙ opened .head3 .given .1)
+          (met .before .before .if3 .left) (rw (c .if4 .taken) at (met .visit2 .ensures .1)) (search needs) (search needs) (ended _ _ _ (λ z. omega arith)),
+    )
+
 sub-walk-stream : (t : ℕ) → lts.Need-sub-walk-stream (R t) (At t) own.Post Inv μ
 sub-walk-stream t c =
-    let opened = c .before .before .before .before in
+    let opened = c .before .before .before .before .before in
     let w = open-within _ _ _ (sym (opened .before .before .read-head .ensures) ∙ opened .head3 .given .1) in
     omega arith
 
 part-walk-stream-start : (t : ℕ) → lts.Need-part-walk-stream-start (R t) (At t) own.Post Inv μ
 part-walk-stream-start t c =
-    let opened = c .before .before .before .before in
+    let opened = c .before .before .before .before .before in
     let w = open-within _ _ _ (sym (opened .before .before .read-head .ensures) ∙ opened .head3 .given .1) in
     omega arith
 
 part-walk-stream-end : (t : ℕ) → lts.Need-part-walk-stream-end (R t) (At t) own.Post Inv μ
 part-walk-stream-end t c =
-    let opened = c .before .before .before .before in
+    let opened = c .before .before .before .before .before in
     let w = open-within _ _ _ (sym (opened .before .before .read-head .ensures) ∙ opened .head3 .given .1) in
     omega arith
 
 add-walk-stream : (t : ℕ) → lts.Need-add-walk-stream (R t) (At t) own.Post Inv μ
 add-walk-stream t c =
-    let opened = c .before .before .before .before .before in
+    let opened = c .before .before .before .before .before .before in
     let w = open-within _ _ _ (sym (opened .before .before .read-head .ensures) ∙ opened .head3 .given .1) in
     omega arith
 
@@ -201,27 +222,26 @@ sub-walk-stream-2 t c = search needs
 
 walk-stream-requires : (t : ℕ) → lts.Need-walk-stream-requires (R t) (At t) own.Post Inv μ
 walk-stream-requires t c κs =
-    let met = c .before .before in
+    let met = c .before .before .before in
     let opened = met .before .before .before .before in
     let w = open-within _ _ _ (sym (opened .before .before .read-head .ensures) ∙ opened .head3 .given .1) in
     (omega arith, (omega arith, met .visit2 .ensures .0))
 
-returns-4 : (t : ℕ) → lts.Need-returns-4 (R t) (At t) own.Post Inv μ
-returns-4 t c =
+returns-6 : (t : ℕ) → lts.Need-returns-6 (R t) (At t) own.Post Inv μ
+returns-6 t c =
     let children = c .before in
-    let met = children .before .before .before in
+    let met = children .before .before .before .before in
     let opened = met .before .before .before .before in
-    let turn = opened .before .before .before in
-    let refused = carried-refused _ _ (c .if3 .taken) in (
+    let turn = opened .before .before .before in (
       children .walk-stream .ensures .0,
-      refused ∙ turn-children _ (turn .before .loop .inv .1) (search needs) (sym (opened .before .before .read-head .ensures) ∙ opened .head3 .given .1)
-          (met .before .before .if2 .left) (met .visit2 .ensures .1) (search needs) (search needs)
-          (children .walk-stream .ensures .1) (search needs) (search needs) refused,
+      turn-children _ (turn .before .loop .inv .1) (search needs) (sym (opened .before .before .read-head .ensures) ∙ opened .head3 .given .1)
+          (met .before .before .if3 .left) (rw (children .before .before .before .if4 .left) at (met .visit2 .ensures .1)) (search needs) (search needs)
+          (children .walk-stream .ensures .1) (search needs) (search needs) (ended _ _ _ (c .if5 .taken)),
     )
 
 aligned-requires-2 : (t : ℕ) → lts.Need-aligned-requires-2 (R t) (At t) own.Post Inv μ
 aligned-requires-2 t c κs =
-    let opened = c .before .before .before .before .before .before .before .before in
+    let opened = c .before .before .before .before .before .before .before .before .before in
     let w = open-within _ _ _ (sym (opened .before .before .read-head .ensures) ∙ opened .head3 .given .1) in
     omega arith
 
@@ -231,24 +251,24 @@ sub-zero-bytes-2 t c = search needs
 zero-bytes-requires-2 : (t : ℕ) → lts.Need-zero-bytes-requires-2 (R t) (At t) own.Post Inv μ
 zero-bytes-requires-2 t c κs = search needs
 
-returns-5 : (t : ℕ) → lts.Need-returns-5 (R t) (At t) own.Post Inv μ
-returns-5 t c =
+returns-7 : (t : ℕ) → lts.Need-returns-7 (R t) (At t) own.Post Inv μ
+returns-7 t c =
     let next = c .before .before in
     let children = next .before .before in
-    let met = children .before .before .before in
+    let met = children .before .before .before .before in
     let opened = met .before .before .before .before in
     let turn = opened .before .before .before in (
       children .walk-stream .ensures .0,
       turn-open-207 _ (turn .before .loop .inv .1) (search needs) (sym (opened .before .before .read-head .ensures) ∙ opened .head3 .given .1)
-          (met .before .before .if2 .left) (met .visit2 .ensures .1) (search needs) (search needs)
-          (rw (next .before .if3 .left) at (children .walk-stream .ensures .1)) (search needs) (search needs) (next .aligned2 .ensures)
-          (sym (c .before .zero-bytes2 .ensures) ∙ not-true _ (c .if4 .taken)) (carried-fault _ _ (λ z. omega arith)),
+          (met .before .before .if3 .left) (rw (children .before .before .before .if4 .left) at (met .visit2 .ensures .1)) (search needs) (search needs)
+          (rw (next .before .if5 .left) at (children .walk-stream .ensures .1)) (search needs) (search needs) (next .aligned2 .ensures)
+          (sym (c .before .zero-bytes2 .ensures) ∙ not-true _ (c .if6 .taken)) (carried-fault _ _ (omega arith)),
     )
 
 loop-less-2 : (t : ℕ) → lts.Need-loop-less-2 (R t) (At t) own.Post Inv μ
 loop-less-2 t c =
     let next = c .before .before in
-    let opened = next .before .before .before .before .before .before .before .before .before in
+    let opened = next .before .before .before .before .before .before .before .before .before .before in
     let w = open-within _ _ _ (sym (opened .before .before .read-head .ensures) ∙ opened .head3 .given .1) in
     let up = next .aligned2 .ensures in
     omega arith
@@ -257,18 +277,18 @@ loop-again-2 : (t : ℕ) → lts.Need-loop-again-2 (R t) (At t) own.Post Inv μ
 loop-again-2 t c =
     let next = c .before .before in
     let children = next .before .before in
-    let met = children .before .before .before in
+    let met = children .before .before .before .before in
     let opened = met .before .before .before .before in
     let turn = opened .before .before .before in (
       children .walk-stream .ensures .0,
       turn-open-next _ (turn .before .loop .inv .1) (search needs) (sym (opened .before .before .read-head .ensures) ∙ opened .head3 .given .1)
-          (met .before .before .if2 .left) (met .visit2 .ensures .1) (search needs) (search needs)
-          (rw (next .before .if3 .left) at (children .walk-stream .ensures .1)) (search needs) (search needs) (next .aligned2 .ensures)
-          (sym (c .before .zero-bytes2 .ensures) ∙ not-false _ (c .if4 .left)),
+          (met .before .before .if3 .left) (rw (children .before .before .before .if4 .left) at (met .visit2 .ensures .1)) (search needs) (search needs)
+          (rw (next .before .if5 .left) at (children .walk-stream .ensures .1)) (search needs) (search needs) (next .aligned2 .ensures)
+          (sym (c .before .zero-bytes2 .ensures) ∙ not-false _ (c .if6 .left)),
     )
 
-returns-6 : (t : ℕ) → lts.Need-returns-6 (R t) (At t) own.Post Inv μ
-returns-6 t c = (c .before .loop .inv .0, going-end _ (c .before .loop .inv .1) (search needs))
+returns-8 : (t : ℕ) → lts.Need-returns-8 (R t) (At t) own.Post Inv μ
+returns-8 t c = (c .before .loop .inv .0, going-end _ (c .before .loop .inv .1) (search needs))
 
 pub +walk-stream-spec : {M : Type 1} → statement M
 +walk-stream-spec = close levels λ t. lts.spec (R t)
@@ -284,28 +304,30 @@ pub +walk-stream-spec : {M : Type 1} → statement M
     (add-visit t)
     (add-visit-2 t)
     (visit-requires t)
+    (returns-2 t)
     (aligned-requires t)
     (sub-zero-bytes t)
     (zero-bytes-requires t)
-    (returns-2 t)
+    (returns-3 t)
     (loop-less t)
     (loop-again t)
     (enum-known-head-3 t)
-    (returns-3 t)
+    (returns-4 t)
     (add-visit-3 t)
     (add-visit-4 t)
     (visit-requires-2 t)
+    (returns-5 t)
     (sub-walk-stream t)
     (part-walk-stream-start t)
     (part-walk-stream-end t)
     (add-walk-stream t)
     (sub-walk-stream-2 t)
     (walk-stream-requires t)
-    (returns-4 t)
+    (returns-6 t)
     (aligned-requires-2 t)
     (sub-zero-bytes-2 t)
     (zero-bytes-requires-2 t)
-    (returns-5 t)
+    (returns-7 t)
     (loop-less-2 t)
     (loop-again-2 t)
-    (returns-6 t)
+    (returns-8 t)
