@@ -8,8 +8,7 @@ use mathlib.Core.Option.{none}
 use native.Mathlib.Omega.{arith}
 use borrow.Author.Tests.{le-ltb, ltb-true, ltb-false, ne-eqb}
 use lib.Dec.{ltb}
-use lib.ListN.{length, getD, drop, length-take, List·getD-eq-default}
-use lib.Seq.{getD-take, getD-drop}
+use lib.ListN.{length, getD}
 use Rattle.numbers.specs.LittleEndian.{le}
 use Rattle.sections.specs.Header.{sizeField, largestField, sizeFaults, headFaults, headAt}
 use Rattle.sections.specs.Walk.{Trace, done, fault, section, andThen, aligned, zeros, part, afterPadding, meet, siblings, walk, streamLimit, streamWalk}
@@ -20,6 +19,7 @@ use Rattle.sections.specs.declared.header.Head.{Head}
 use Rattle.sections.specs.declared.header.Head.the-variants.{Fault, Closed, Open}
 use Rattle.sections.proofs.header.Sizes.{not-long, short-header, short-size, header-range}
 use Rattle.sections.proofs.header.Cases.{head-201}
+use Rattle.sections.proofs.walk.Parts.{part-byte}
 
 -- the walk of a mode comes, from byte `at` on and with n levels left below, to a start of which P holds: it goes on behind a section whose
 -- padding is zero, into the contents of a holder, and behind a holder whose children have no fault and whose padding is zero
@@ -150,15 +150,6 @@ first-modes mode mode′ s t short unmet = ap (firstAnswer t) (stream-modes mode
 -- in particular a stream in which no three bytes FF follow one another
 abbrev pub NoThree : List ℕ → Type 0
 NoThree s = (i : ℕ) → getD s i 0 ≡ 255 → getD s (i + 1) 0 ≡ 255 → getD s (i + 2) 0 ≡ 255 → ⊥
-
-part-byte : (f e : ℕ) (s : List ℕ) (j : ℕ) → (getD (part f e s) j 0 ≡ getD s (f + j) 0) ⊎ (getD (part f e s) j 0 ≡ 0)
-part-byte f e s j = go (ltb j (e - f)) refl
-  where
-    go : (b : Bool) → ltb j (e - f) ≡ b → (getD (part f e s) j 0 ≡ getD s (f + j) 0) ⊎ (getD (part f e s) j 0 ≡ 0)
-    go true c = inl (getD-take (e - f) (drop f s) j 0 (ltb-true j (e - f) c) ∙ getD-drop f s j 0)
-    go false c =
-        let past = ltb-false j (e - f) c in
-        inr (List·getD-eq-default (part f e s) 0 {n = j} (simp length-take (omega arith)))
 
 part-bound : (f e : ℕ) (s : List ℕ) → ((i : ℕ) → getD s i 0 < 256) → (j : ℕ) → getD (part f e s) j 0 < 256
 part-bound f e s bytes j = go (part-byte f e s j)

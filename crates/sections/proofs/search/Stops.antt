@@ -21,7 +21,8 @@ use Rattle.sections.specs.declared.header.Mode.{Mode}
 use Rattle.sections.proofs.header.Decided.{ownFields, own-least, head-same}
 use Rattle.sections.proofs.header.Extent.{is-closed, is-open, closed-within, open-within}
 use Rattle.sections.proofs.header.Sizes.{header-range}
-use Rattle.sections.proofs.walk.Padding.{zeros-same, part-byte}
+use Rattle.sections.proofs.walk.Padding.{zeros-same}
+use Rattle.sections.proofs.walk.Parts.{parts-alike}
 
 -- two streams of one length, alike before a place of the outer stream, in which they start at byte `base`
 record Alike (high base : ℕ) (s s′ : List ℕ) : Type 0 where
@@ -31,7 +32,7 @@ record Alike (high base : ℕ) (s s′ : List ℕ) : Type 0 where
 module _ {high base : ℕ} {s s′ : List ℕ} (a : Alike high base s s′) (f e : ℕ) where
   -- so are their parts, which are the same where they lie whole before that place
   alike-part : Alike high (base + f) (part f e s) (part f e s′)
-  alike-part = record { long = simp (length-take, length-drop) (rw (a .long)); bytes = λ j h. part-byte f e s s′ j (λ low. a .bytes (f + j) (omega arith)) }
+  alike-part = record { long = simp (length-take, length-drop) (rw (a .long)); bytes = λ j h. parts-alike f e s s′ j (λ low. a .bytes (f + j) (omega arith)) }
 
   part-same : f ≤ e → base + e ≤ high → part f e s ≡ part f e s′
   part-same order low =

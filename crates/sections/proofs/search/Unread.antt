@@ -17,9 +17,10 @@ use Rattle.sections.specs.declared.header.Head.{Head}
 use Rattle.sections.specs.declared.header.Head.the-variants.{Fault, Closed, Open}
 use Rattle.sections.specs.declared.header.Mode.{Mode}
 use Rattle.sections.proofs.header.Decided.{own-least, head-same}
-use Rattle.sections.proofs.header.Sizes.{header-range}
 use Rattle.sections.proofs.header.Extent.{is-closed, is-open, closed-within, open-within, contents-within}
-use Rattle.sections.proofs.walk.Padding.{zeros-same, part-byte}
+use Rattle.sections.proofs.header.Sizes.{header-range}
+use Rattle.sections.proofs.walk.Padding.{zeros-same}
+use Rattle.sections.proofs.walk.Parts.{parts-alike}
 
 module _ (mode : Mode) where
   -- byte i of a stream is one that P names of some section at the starts that follow one another from byte `at` on, whatever faults
@@ -150,7 +151,12 @@ module _ (mode : Mode) where
 
     -- the contents of a holder, as streams of their own
     open-contents : (m t first f e : ℕ) → n ≡ suc m → headAt mode s at ≡ Open t first f e → SameBut m (part f e s) (part f e s′) 0
-    open-contents m t first f e z h = record { long = simp (length-take, length-drop) (rw (b .long)); bytes = λ j p x. part-byte f e s s′ j (λ a. let w = open-within mode s at h in b .bytes (f + j) (omega arith) (λ u. other j a x (unread-open t first f e h u))) }
+    open-contents m t first f e z h =
+        record {
+          long = simp (length-take, length-drop) (rw (b .long));
+          bytes = λ j p x. parts-alike f e s s′ j
+              (λ a. let w = open-within mode s at h in b .bytes (f + j) (omega arith) (λ u. other j a x (unread-open t first f e h u)));
+        }
       where
         other : (j : ℕ) → j < e - f → (Unread m (part f e s) 0 j → ⊥)
             → ((k : ℕ) × (j′ : ℕ) × (n ≡ suc k) × (f + j ≡ f + j′) × Unread k (part f e s) 0 j′) ⊎ Unread n s (aligned e) (f + j) → ⊥

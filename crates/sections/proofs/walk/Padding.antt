@@ -1,16 +1,14 @@
 -- Laws of padding: the test that its bytes are zero, byte by byte, and what follows a section by that test.
 use Prim.Native.Nat.{ℕ, zero, suc, _+_, _-_, _≤_, _<_}
-use mathlib.Core.Path.{_≡_, refl, sym, _∙_}
+use mathlib.Core.Path.{_≡_, refl, sym}
 use mathlib.Core.Bool.{Bool, true, false}
 use mathlib.Core.List.{List}
 use mathlib.Core.Option.{Option, none, some}
 use native.Mathlib.Nat.{add-zero, sub-zero}
 use native.Mathlib.Omega.{arith}
-use borrow.Author.Tests.{eq-eqb, ne-eqb, ltb-true, ltb-false}
-use lib.Dec.{ltb}
-use lib.Seq.{getD-take, getD-drop}
-use lib.ListN.{length, getD, drop, length-take, List·getD-eq-default}
-use Rattle.sections.specs.Walk.{Trace, fault, aligned, zeros, part, afterPadding}
+use borrow.Author.Tests.{eq-eqb, ne-eqb}
+use lib.ListN.{length, getD, List·getD-eq-default}
+use Rattle.sections.specs.Walk.{Trace, fault, aligned, zeros, afterPadding}
 use Rattle.sections.specs.Search.{firstFault}
 
 -- the test of n bytes from `at` on, with i of them passed: its start, its end, and a byte that is 0 or not
@@ -37,20 +35,6 @@ pub zeros-same : (s s′ : List ℕ) (at n : ℕ) → ((i : ℕ) → at ≤ i �
 unfolding zeros
 zeros-same s s′ at zero h = refl
 zeros-same s s′ at (suc n) h = rw (h at (omega arith) (omega arith), zeros-same s s′ (at + 1) n (λ i a b. h i (omega arith) (omega arith)))
-
--- two parts are alike at a byte where the streams are
-pub part-byte : (f e : ℕ) (s s′ : List ℕ) (j : ℕ) → (j < e - f → getD s (f + j) 0 ≡ getD s′ (f + j) 0) → getD (part f e s) j 0 ≡ getD (part f e s′) j 0
-part-byte f e s s′ j h = go (ltb j (e - f)) refl
-  where
-    go : (b : Bool) → ltb j (e - f) ≡ b → getD (part f e s) j 0 ≡ getD (part f e s′) j 0
-    go true c =
-        let low = ltb-true j (e - f) c in
-        rw (getD-take (e - f) (drop f s) j 0 low, getD-take (e - f) (drop f s′) j 0 low, getD-drop, getD-drop) (h low)
-    go false c =
-        let past = ltb-false j (e - f) c in
-        let l : length (part f e s) ≤ j = simp length-take (omega arith) in
-        let l′ : length (part f e s′) ≤ j = simp length-take (omega arith) in
-        List·getD-eq-default (part f e s) 0 {n = j} l ∙ sym (List·getD-eq-default (part f e s′) 0 {n = j} l′)
 
 -- bytes past the end count as 0
 pub zeros-past : (s : List ℕ) (at n : ℕ) → length s ≤ at → zeros s at n ≡ true
