@@ -14,11 +14,11 @@ from pathlib import Path
 sys.dont_write_bytecode = True
 
 import trial
-from cases import editions, first_match, headers, long_headers, protection, service, streams
+from cases import editions, first_match, headers, long_headers, portions, protection, service, streams
 from model.volume import listing
 
 ROOT = Path(__file__).resolve().parent.parent
-LONGEST = 655360        # bytes of a script that the program reads
+LONGEST = 1376256       # bytes of a script that the program reads
 
 
 def said(name):
@@ -38,7 +38,7 @@ def checked(cases):
 
 
 def made():
-    parts = (headers, editions, service, protection, streams, long_headers, first_match)
+    parts = (headers, editions, service, protection, streams, long_headers, first_match, portions)
     return list(checked(pair for part in parts for pair in part.cases()))
 
 

@@ -6,7 +6,7 @@ the model alone. README.md beside this file has both formats.
 
 from collections import namedtuple
 
-from model import sections, volume
+from model import portions, sections, volume
 from model.sections import FRAMEWORK
 
 Case = namedtuple("Case", "name script lines numbers")     # numbers: the answer of each line
@@ -29,6 +29,16 @@ def number(n):
 
 def items(*parts):
     return b"".join(number(len(part)) + bytes(part) for part in parts)
+
+
+def split(script):
+    """The items of a list."""
+    parts = []
+    while script:
+        size = int.from_bytes(script[:8], "little")
+        parts.append(script[8:8 + size])
+        script = script[8 + size:]
+    return parts
 
 
 def words(numbers, width):
@@ -264,3 +274,14 @@ def appending(name, room, used, kind, body, stream=b"", instance=0, pattern=PATT
                    stream, pattern_item(pattern), number(instance), *more)
     fields += search_fields(bytes(shown_stream), kind, instance, mode)
     return Case(name, script, [line(name, word, *fields)], [no])
+
+
+def receiving(name, came, total, kind, instance, lengths=(), mode=FRAMEWORK):
+    """A file that comes in portions of the lengths given, what is left as one portion, in single bytes, and in any two portions."""
+    word, more = in_mode("receive", mode)
+    script = items(name.encode(), number(10), came, bytes([kind]), number(instance), number(total), words(lengths, 8), *more)
+    announced, answer = portions.announce(total, mode), portions.finish(came, total, kind, instance, mode)
+    no, place = portions.fault(came, total, mode) or (0, "-")
+    others = len(came) + 2
+    fields = [kind, instance, total, len(came), announced, *answer_fields(*answer), place, no, "%d of %d" % (others, others)]
+    return Case(name, script, [line(name, word, *fields)], [announced, answer[0]])

@@ -1,9 +1,10 @@
-"""Section streams, as the scope document describes them, with requests f and i of 02: the test of
+"""Section streams, as the scope document describes them, with requests f, i and c of 02: the test of
 the whole tree, the search for a type and instance, the search for a type's first section, and
 appending a leaf.
 
 Mode 0 is Framework, any other PI; there a size field of FF FF FF means that a 32-bit size stands
 behind the type. Both searches answer (number, first byte, end), append (number, used count).
+A fault carries the number of bytes that must have come for it to be found, which portions.py asks for.
 """
 
 FRAMEWORK, PI = 0, 1
@@ -15,7 +16,7 @@ LIMIT, PI_LIMIT, LEVELS = 16777216, 67108864, 8
 
 
 class Fault(Exception):
-    pass
+    """(number, bytes that must have come): up to the last that its test reads; for 201 at a start, up to the start."""
 
 
 def number(data, place, width):
@@ -29,26 +30,27 @@ def stream_limit(mode):
 def size_and_header(stream, at, end, mode):
     """The size of the section that starts there and the length of its header; raises 201."""
     if end - at < SHORT_HEADER:
-        raise Fault(201)
+        raise Fault(201, at)
     size = number(stream, at, 3)
     if mode == FRAMEWORK or size != LONG:
         return size, SHORT_HEADER
     if end - at < LONG_HEADER:
-        raise Fault(201)
+        raise Fault(201, at + 3)
     return number(stream, at + 4, 4), LONG_HEADER
 
 
-def contents_offset(section, kind, header, size):
+def contents_offset(stream, at, kind, header, size):
     """Where in the section the contents to be searched start, or None; raises 204."""
-    if kind == COMPRESSION and section[header + 4] == 0:
-        if number(section, header, 4) != size - (header + 5):
-            raise Fault(204)
+    fields = at + header
+    if kind == COMPRESSION and stream[fields + 4] == 0:
+        if number(stream, fields, 4) != size - (header + 5):
+            raise Fault(204, fields + 5)
         return header + 5
     if kind == GUID_DEFINED:
-        offset = number(section, header + 16, 2)
+        offset = number(stream, fields + 16, 2)
         if offset < header + 20 or offset > size:
-            raise Fault(204)
-        if not section[header + 18] & 1:
+            raise Fault(204, fields + 18)
+        if not stream[fields + 18] & 1:
             return offset
     return None
 
@@ -60,18 +62,19 @@ def walk(stream, start, end, level, mode):
         size, header = size_and_header(stream, at, end, mode)
         kind = stream[at + 3]
         if size < header + FIELDS.get(kind, 0):
-            raise Fault(202)
+            raise Fault(202, at + header)
         if at + size > end:
-            raise Fault(203)
-        inner = contents_offset(stream[at:at + min(size, 28)], kind, header, size)
+            raise Fault(203, at + header)
+        inner = contents_offset(stream, at, kind, header, size)
         if inner is not None and level == LEVELS:
-            raise Fault(205)
+            raise Fault(205, at + header + FIELDS[kind])
         yield kind, at + header, at + size
         if inner is not None:
             yield from walk(stream, at + inner, at + size, level + 1, mode)
         padded = min(end, start + (at + size - start + 3) // 4 * 4)
-        if any(stream[at + size:padded]):
-            raise Fault(207)
+        for place in range(at + size, padded):
+            if stream[place]:
+                raise Fault(207, place + 1)
         at = padded
 
 

@@ -1,4 +1,4 @@
--- The theorems of this crate, in document 01's order ("Sections"; 02, i and f): their words, the statement over the definitions of specs/ that the
+-- The theorems of this crate, in document 01's order ("Sections"; 02, i, f and c): their words, the statement over the definitions of specs/ that the
 -- contracts cite, and where it is proved.
 use Prim.Native.Nat.{ℕ, suc, _+_, _-_, _%_, _≤_, _<_}
 use mathlib.Core.Path.{_≡_, refl}
@@ -13,8 +13,9 @@ use Rattle.common.specs.Refusals.{firstRefusal}
 use Rattle.numbers.specs.LittleEndian.{le, leBytes}
 use Rattle.sections.specs.Types.{typeIs, infoAmong, typeInfo}
 use Rattle.sections.specs.Header.{sizeField, isLong, headerLength, sizeAt, typeAt, grown, leastSize, unpackedLength, compressionKind, dataOffset, attributes}
-use Rattle.sections.specs.Header.{contentsAt, packed, wrongContents, sizeFaults, headFaults, sectionOf, sectionAt, headAt}
-use Rattle.sections.specs.Walk.{Trace, done, fault, section, andThen, aligned, zeros, part, afterPadding, meet, siblings, walk, streamLimit, streamWalk}
+use Rattle.sections.specs.Header.{ownFields, contentsAt, packed, wrongContents, sizeFaults, headFaults, sectionOf, sectionAt, headIn, headAt}
+use Rattle.sections.specs.Partial.{decided, partialOf}
+use Rattle.sections.specs.Walk.{Trace, done, fault, section, andThen, aligned, zeros, firstNonzero, part, afterPadding, meet, siblings, walk, streamLimit, streamWalk}
 use Rattle.sections.specs.Search.{Section, sections, firstFault, ofType, searchOf, firstAnswer, searchFirstOf, WellFormed, countOf}
 use Rattle.sections.specs.Append.{leafHeader, leafStart, usedAfter, appendOf, bufferAfter}
 use Rattle.sections.specs.declared.header.Mode.{Mode}
@@ -22,12 +23,14 @@ use Rattle.sections.specs.declared.header.Mode.the-variants.{Framework, 
 use Rattle.sections.specs.declared.types.TypeName.the-variants.{Unknown}
 use Rattle.sections.specs.declared.types.Class.the-variants.{PlainLeaf}
 use Rattle.sections.specs.declared.header.Head.the-variants.{Fault, Closed, Open}
+use Rattle.sections.specs.declared.partial.Partial.the-variants.{Waiting}
 use Rattle.sections.proofs.FrameworkMode as framework
 use Rattle.sections.proofs.types.Rows as rows
 use Rattle.sections.proofs.header.Sizes as sizes
 use Rattle.sections.proofs.header.Cases as cases
-use Rattle.sections.proofs.header.Decided as decided
+use Rattle.sections.proofs.header.Decided as head-decided
 use Rattle.sections.proofs.header.Extent as extent
+use Rattle.sections.proofs.partial.Enough as enough
 use Rattle.sections.proofs.walk.Padding as padding
 use Rattle.sections.proofs.walk.Starts as starts
 use Rattle.sections.proofs.search.First as first
@@ -41,7 +44,7 @@ use Rattle.sections.proofs.append.Stream as stream
 
 -- what the examples compute with: the header at a start, and the rest
 unfoldable headers : Unit {0}
-unfolding le infoAmong typeInfo firstRefusal isLong headerLength sizeAt sizeFaults headFaults packed contentsAt wrongContents sectionOf headAt
+unfolding le infoAmong typeInfo firstRefusal isLong headerLength sizeAt sizeFaults headFaults packed contentsAt wrongContents sectionOf headIn headAt
 headers = tt
 
 unfoldable examples : Unit {0}
@@ -161,6 +164,26 @@ module _ (mode : Mode) (s : List ℕ) (at : ℕ) where
       → (at + leastSize h t′ ≤ f) × (first ≡ at + h) × (at + 4 ≤ first) × (first ≤ f) × (f ≤ e) × (e ≤ length s)
   open-within = extent.open-within mode s at
 
+-- ---- a header of which the first bytes came (02, c)
+
+-- what stands behind the bytes that came does not matter
+pub partial-alike : (mode : Mode) (s s′ : List ℕ) (have left : ℕ) → ((i : ℕ) → i < have → getD s i 0 ≡ getD s′ i 0)
+    → partialOf mode s have left ≡ partialOf mode s′ have left
+partial-alike = enough.partial-alike
+
+-- 28 bytes always decide: what they say is what stands there
+pub partial-whole : (mode : Mode) (s : List ℕ) (left : ℕ) → partialOf mode s 28 left ≡ decided (headIn mode left s 0)
+partial-whole mode s left = enough.partial-enough mode s 28 left (omega arith)
+
+-- and so do more
+pub partial-enough : (mode : Mode) (s : List ℕ) (have left : ℕ) → 28 ≤ have → partialOf mode s have left ≡ decided (headIn mode left s 0)
+partial-enough = enough.partial-enough
+
+-- once the bytes say something else than that they are too few, they say the same with more
+pub partial-stays : (mode : Mode) (s : List ℕ) (have have′ left : ℕ) → have ≤ have′ → (partialOf mode s have left ≡ Waiting → ⊥)
+    → partialOf mode s have′ left ≡ partialOf mode s have left
+partial-stays = enough.partial-stays
+
 -- ---- the walk
 
 -- "depth first, left to right": at the end of a stream nothing more; at a start what stands there, a holder's children, its padding and
@@ -179,34 +202,43 @@ module _ (mode : Mode) (n : ℕ) (s : List ℕ) (base at : ℕ) where
   pub walk-end : length s ≤ at → starts.walkFrom mode n s base at ≡ done
   walk-end = starts.walk-end mode n s base at
 
-  pub walk-fault : {m : ℕ} → at < length s → headAt mode s at ≡ Fault m → starts.walkFrom mode n s base at ≡ fault m
+  pub walk-fault : {m : ℕ} → at < length s → headAt mode s at ≡ Fault m → starts.walkFrom mode n s base at ≡ fault m (base + at) (base + length s)
   walk-fault = starts.walk-fault mode n s base at
 
   pub walk-closed : {t first e : ℕ} → at < length s → headAt mode s at ≡ Closed t first e
-      → starts.walkFrom mode n s base at ≡ section t (base + first) (base + e) (afterPadding s e (starts.walkFrom mode n s base))
+      → starts.walkFrom mode n s base at ≡ section t (base + first) (base + e) (afterPadding s base e (starts.walkFrom mode n s base))
   walk-closed = starts.walk-closed mode n s base at
 
   pub walk-open : {t first f e : ℕ} → at < length s → headAt mode s at ≡ Open t first f e
       → starts.walkFrom mode (suc n) s base at
-      ≡ section t (base + first) (base + e) (andThen (walk mode n (part f e s) (base + f)) (afterPadding s e (starts.walkFrom mode (suc n) s base)))
+      ≡ section t (base + first) (base + e) (andThen (walk mode n (part f e s) (base + f)) (afterPadding s base e (starts.walkFrom mode (suc n) s base)))
   walk-open = starts.walk-open mode n s base at
 
   -- "a holder counts before its children", and they before all that follows it
   pub holder-first : {t first f e : ℕ} → at < length s → headAt mode s at ≡ Open t first f e → firstFault (walk mode n (part f e s) (base + f)) ≡ none
       → sections (starts.walkFrom mode (suc n) s base at)
       ≡ record { sectionType = t; first = base + first; end = base + e }
-      ∷ (sections (walk mode n (part f e s) (base + f)) ++ sections (afterPadding s e (starts.walkFrom mode (suc n) s base)))
+      ∷ (sections (walk mode n (part f e s) (base + f)) ++ sections (afterPadding s base e (starts.walkFrom mode (suc n) s base)))
   holder-first = order.holder-first mode n s base at
 
 -- "205 contents to be searched would lie on a ninth level"
-pub walk-205 : (mode : Mode) (s : List ℕ) (base at : ℕ) {t first f e : ℕ} → at < length s → headAt mode s at ≡ Open t first f e → starts.walkFrom mode 0 s base at ≡ fault 205
+pub walk-205 : (mode : Mode) (s : List ℕ) (base at : ℕ) {t first f e : ℕ} → at < length s → headAt mode s at ≡ Open t first f e
+    → starts.walkFrom mode 0 s base at ≡ fault 205 (base + at) (base + length s)
 walk-205 = starts.walk-205
 
--- "then 207 nonzero padding"; else the walk goes on at the next start
-pub padding-207 : (s : List ℕ) (e : ℕ) (rest : ℕ → Trace) → zeros s e (aligned e - e) ≡ false → afterPadding s e rest ≡ fault 207
+-- "then 207 nonzero padding"
+pub padding-207 : (s : List ℕ) (base e : ℕ) (rest : ℕ → Trace) → zeros s e (aligned e - e) ≡ false
+    → afterPadding s base e rest ≡ fault 207 (base + firstNonzero s e (aligned e - e)) (base + length s)
 padding-207 = padding.padding-207
 
-pub padding-zero : (s : List ℕ) (e : ℕ) (rest : ℕ → Trace) → zeros s e (aligned e - e) ≡ true → afterPadding s e rest ≡ rest (aligned e)
+-- where that fault stands: the first byte of the padding that is not zero
+pub first-nonzero : (s : List ℕ) (at n : ℕ) → zeros s at n ≡ false
+    → (at ≤ firstNonzero s at n) × (firstNonzero s at n < at + n) × (getD s (firstNonzero s at n) 0 ≡ 0 → ⊥)
+    × ((j : ℕ) → at ≤ j → j < firstNonzero s at n → getD s j 0 ≡ 0)
+first-nonzero = padding.first-nonzero
+
+-- with zero padding the walk goes on at the next start
+pub padding-zero : (s : List ℕ) (base e : ℕ) (rest : ℕ → Trace) → zeros s e (aligned e - e) ≡ true → afterPadding s base e rest ≡ rest (aligned e)
 padding-zero = padding.padding-zero
 
 -- "padding cut off by the stream's end is fine": bytes past the end are never a fault
@@ -293,12 +325,12 @@ module _ (mode : Mode) (s : List ℕ) (t : ℕ) where
   shown-or-fault = first.shown-or-fault mode s t
 
   -- the part that is shown lies inside the stream, and a holder's own fields in it
-  pub first-inside : (f e : ℕ) → searchFirstOf mode s t ≡ success (f ∷ e ∷ []) → (f + decided.ownFields t ≤ e) × (e ≤ length s)
+  pub first-inside : (f e : ℕ) → searchFirstOf mode s t ≡ success (f ∷ e ∷ []) → (f + ownFields t ≤ e) × (e ≤ length s)
   first-inside = first.first-inside mode s t
 
   -- "without walking the rest": the answer depends on no byte after the match's header, which ends, with a holder's own fields, at byte f + ownFields t
   pub first-stops : (s′ : List ℕ) (f e : ℕ) → searchFirstOf mode s t ≡ success (f ∷ e ∷ []) → length s ≡ length s′
-      → ((i : ℕ) → i < f + decided.ownFields t → getD s i 0 ≡ getD s′ i 0) → searchFirstOf mode s′ t ≡ success (f ∷ e ∷ [])
+      → ((i : ℕ) → i < f + ownFields t → getD s i 0 ≡ getD s′ i 0) → searchFirstOf mode s′ t ≡ success (f ∷ e ∷ [])
   first-stops s′ = stops.first-stops mode s s′ t
 
   -- nor on what lies in any section that is not opened, after its type's own header, and so not on packed contents
@@ -311,8 +343,8 @@ module _ (mode : Mode) (s : List ℕ) (t : ℕ) where
 
 -- the fields of its own that are read of a holder: 5 bytes of a compression section, 20 of a GUID-defined one; of another type, also of a free-form
 -- GUID section, none
-pub own-fields : (decided.ownFields 0x01 ≡ 5) × (decided.ownFields 0x02 ≡ 20) × ((t : ℕ) → (t ≡ 0x01 → ⊥) → (t ≡ 0x02 → ⊥) → decided.ownFields t ≡ 0)
-own-fields = decided.own-fields
+pub own-fields : (ownFields 0x01 ≡ 5) × (ownFields 0x02 ≡ 20) × ((t : ℕ) → (t ≡ 0x01 → ⊥) → (t ≡ 0x02 → ⊥) → ownFields t ≡ 0)
+own-fields = head-decided.own-fields
 
 -- sections of other types that the walk meets first change nothing
 pub passed-before : (t : ℕ) (before : List Section) (x : Trace) → ofType t before ≡ [] → firstAnswer t (first.after before x) ≡ firstAnswer t x
@@ -342,9 +374,9 @@ first-differs = (refl, refl)
 
 -- ---- the two modes
 
--- "Framework files keep the old meaning": every walk is, and every search answers, as before request i; proofs/FrameworkMode.antt has the
--- definitions of that time
-pub stream-walk-as-before : (s : List ℕ) → streamWalk Framework s ≡ framework.streamWalk₁ s
+-- "Framework files keep the old meaning": every walk is as before request i, but for the place of a fault, which a walk of that time did not say;
+-- and every search answers as it did. proofs/FrameworkMode.antt has the definitions of that time
+pub stream-walk-as-before : (s : List ℕ) → framework.withoutPlaces (streamWalk Framework s) ≡ framework.streamWalk₁ s
 stream-walk-as-before = framework.stream-walk-as-before
 
 pub search-as-before : (s : List ℕ) (t instance : ℕ) → searchOf Framework s t instance ≡ framework.searchOf₁ s t instance

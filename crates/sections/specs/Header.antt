@@ -78,6 +78,11 @@ isHolder OpenableHolder = true
 isHolder GuidHeadedLeaf = false
 isHolder PlainLeaf = false
 
+-- how many bytes a holder's own fields have, which stand after its header and say what it holds: a compression section's unpacked length and
+-- kind, and the GUID, the data offset and the attributes of a GUID-defined one. Of a leaf no field is read, so 0
+unfoldable pub ownFields : (sectionType : ℕ) → ℕ
+ownFields sectionType = cond (isHolder (typeInfo sectionType .class)) (typeInfo sectionType .least - commonHeader) 0
+
 -- the first byte of a holder's contents; the data offset counts from the section's first byte
 unfoldable pub contentsAt : List ℕ → (at sectionType header : ℕ) → ℕ
 contentsAt s at sectionType header =
@@ -107,9 +112,9 @@ sizeFaults mode left s at =
     ∷ []
 
 -- the faults of the section that starts at byte `at`, in the order in which they are tested
-unfoldable pub headFaults : Mode → List ℕ → ℕ → List Row
-headFaults mode s at =
-    sizeFaults mode (length s - at) s at
+unfoldable pub headFaults : Mode → (left : ℕ) → List ℕ → ℕ → List Row
+headFaults mode left s at =
+    sizeFaults mode left s at
     ++ (row (isHolder (typeInfo (typeAt s at) .class) && wrongContents s at (typeAt s at) (headerLength mode s at) (sizeAt mode s at)) 204 ∷ [])
 
 -- a section without a fault, with a header and a size of so many bytes: a holder whose contents are searched, or one that is not opened.
@@ -123,9 +128,13 @@ sectionOf s at sectionType header size =
 abbrev pub sectionAt : Mode → List ℕ → ℕ → Head
 sectionAt mode s at = sectionOf s at (typeAt s at) (headerLength mode s at) (sizeAt mode s at)
 
--- what stands at byte `at` of a stream, where bytes are left: the first fault that applies, or the section
+-- what stands at byte `at`, where `left` bytes are left in the stream that holds it: the first fault that applies, or the section
+unfoldable pub headIn : Mode → (left : ℕ) → List ℕ → ℕ → Head
+headIn mode left s at = unlessRefused Fault (firstRefusal (headFaults mode left s at)) (sectionAt mode s at)
+
+-- the same of a stream that is a list of bytes
 unfoldable pub headAt : Mode → List ℕ → ℕ → Head
-headAt mode s at = unlessRefused Fault (firstRefusal (headFaults mode s at)) (sectionAt mode s at)
+headAt mode s at = headIn mode (length s - at) s at
 
 -- private to the code's contracts: what the size reader answers, where `left` bytes are left
 unfoldable pub sizedAt : Mode → (left : ℕ) → List ℕ → ℕ → Size

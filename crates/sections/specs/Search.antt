@@ -23,13 +23,13 @@ pub record Section : Type 0 where
 -- the sections that a walk meets, in walk order
 unfoldable pub sections : Trace → List Section
 sections done = []
-sections (fault n) = []
+sections (fault n start e) = []
 sections (section t f e rest) = record { sectionType = t; first = f; end = e } ∷ sections rest
 
 -- the fault that a walk ends in; none where the stream is well formed
 unfoldable pub firstFault : Trace → Option ℕ
 firstFault done = none
-firstFault (fault n) = some n
+firstFault (fault n start e) = some n
 firstFault (section t f e rest) = firstFault rest
 
 -- those of a type
@@ -54,7 +54,7 @@ searchOf mode s sectionType instance =
 -- after it
 unfoldable pub firstAnswer : (sectionType : ℕ) → Trace → Answer
 firstAnswer t done = refused 14
-firstAnswer t (fault n) = refused n
+firstAnswer t (fault n start e) = refused n
 firstAnswer t (section u f e rest) = cond (eqb u t) (success (f ∷ e ∷ [])) (firstAnswer t rest)
 
 -- "a type's first section without walking the rest" (02, f)

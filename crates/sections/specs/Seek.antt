@@ -35,7 +35,7 @@ halted n (Stopped a b) = Stopped a b
 -- through all that a walk meets
 unfoldable pub run : (want : ℕ) → Seek → Trace → Seek
 run want a done = a
-run want a (fault n) = halted n a
+run want a (fault n start e) = halted n a
 run want a (section t f e rest) = run want (visited want a t f e) rest
 
 -- how the code holds it: what the walk answers, 0 or 1 or a fault; and four words, the sections still to be passed, the first byte and the

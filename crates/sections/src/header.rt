@@ -31,7 +31,7 @@ pub(crate) const EXTENDED_SIZE: usize = 4;
 // Where the fields of the two holders stand, from the end of the header; the unpacked length is the first.
 const COMPRESSION_KIND: usize = 4;
 
-const DATA_OFFSET: usize = 16;
+pub(crate) const DATA_OFFSET: usize = 16;
 
 const ATTRIBUTES: usize = 18;
 
@@ -54,7 +54,7 @@ pub(crate) enum Size {
 // What stands at a start: a fault, a section that is not opened (a leaf, or a holder with packed
 // contents), or a holder whose contents, from `from` to `end`, are searched. A section shows the
 // bytes from `first` to `end`.
-pub(crate) enum Head {
+pub enum Head {
     Fault(u16),
     Closed {
         section_type: u8,

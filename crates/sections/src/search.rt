@@ -51,6 +51,16 @@ pub fn search_first(mode: Mode, stream: &[u8], section_type: u8) -> Found
     sought(mode, stream, section_type, 0, STOPS)
 }
 
+// The most bytes of a stream.
+pub fn stream_limit(mode: Mode) -> usize
+    ensures { λ r. ⌜ r ≡ streamLimit mode ⌝ }
+{
+    match mode {
+        Mode::Framework => FRAMEWORK_LIMIT,
+        Mode::Pi => PI_LIMIT,
+    }
+}
+
 // What the walk comes to that passes `left` sections of a type and wants the next one: there it stops or,
 // where `stop` is 0, goes on.
 fn sought(mode: Mode, stream: &[u8], want: u8, left: u64, stop: u64) -> Found
@@ -89,14 +99,4 @@ fn shown_part(seek: &[u64; 4]) -> Found
     let first = seek[FIRST] as usize;
     let end = seek[END] as usize;
     Found::Part { first, end }
-}
-
-// The most bytes of a stream.
-pub(crate) fn stream_limit(mode: Mode) -> usize
-    ensures { λ r. ⌜ r ≡ streamLimit mode ⌝ }
-{
-    match mode {
-        Mode::Framework => FRAMEWORK_LIMIT,
-        Mode::Pi => PI_LIMIT,
-    }
 }

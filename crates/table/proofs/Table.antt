@@ -20,7 +20,7 @@ use Rattle.settings.specs.Settings.{statusBits, changesFixed, raises, clears, b
 use Rattle.volume.specs.ExtendedHeader.{extOffset, extFault}
 use Rattle.volume.specs.State.{mapOf, stateOf, stateWith, zeroState, unlawful}
 use Rattle.sections.specs.Types.{infoAmong, typeInfo}
-use Rattle.sections.specs.Header.{isLong, headerLength, sizeAt, sizeFaults, headFaults, headAt, sectionOf, packed, contentsAt, wrongContents}
+use Rattle.sections.specs.Header.{isLong, headerLength, sizeAt, sizeFaults, headFaults, headIn, headAt, sectionOf, packed, contentsAt, wrongContents}
 use Rattle.sections.specs.Walk.{streamLimit, streamWalk, walk, siblings, meet, afterPadding, zeros, andThen}
 use Rattle.sections.specs.Search.{searchOf, sections, firstFault, ofType}
 use Rattle.sections.specs.declared.header.Mode.the-variants.{Framework, Pi}
@@ -105,7 +105,7 @@ unfolding refusals lentRefusals moveAnswer effect decide withAttributes withProt
 calling = tt
 
 searching : Unit {0}
-unfolding infoAmong typeInfo headAt headFaults sizeFaults isLong headerLength sizeAt sectionOf packed contentsAt wrongContents streamLimit streamWalk walk siblings meet afterPadding zeros andThen
+unfolding infoAmong typeInfo headIn headAt headFaults sizeFaults isLong headerLength sizeAt sectionOf packed contentsAt wrongContents streamLimit streamWalk walk siblings meet afterPadding zeros andThen
 searching = tt
 
 pub table : Table

@@ -3,6 +3,7 @@
 // that is independent of this code; tests/README.md has the format of both.
 mod calls;
 mod headers;
+mod portions;
 mod print;
 mod script;
 mod streams;
@@ -14,6 +15,7 @@ use crate::headers::open_case;
 use crate::headers::sum_case;
 use crate::headers::write_case;
 use crate::headers::write_pi_case;
+use crate::portions::receive_case;
 use crate::script::item;
 use crate::script::number;
 use crate::script::prefix;
@@ -23,7 +25,7 @@ use crate::streams::search_case;
 
 // The most bytes of a script. tests/limits builds a program with more, and with a longer VOLUME and ROOM in headers.rt and
 // streams.rt.
-const SCRIPT: usize = 655360;
+const SCRIPT: usize = 1376256;
 
 fn main() {
     let mut input = [0u8; SCRIPT];
@@ -63,6 +65,7 @@ fn one_case(case: &[u8]) {
         6 => sum_case(case),
         7 => write_pi_case(case),
         8 => entry_case(case),
+        10 => receive_case(case),
         _ => first_case(case),
     }
 }

@@ -36,12 +36,12 @@ pub(crate) fn search_case(case: &[u8]) {
 }
 
 // Mode 0, which a case without one has, is Framework, and any other PI.
-fn mode_of(mode: u64) -> Mode {
+pub(crate) fn mode_of(mode: u64) -> Mode {
     if mode == 0 { Mode::Framework } else { Mode::Pi }
 }
 
 // The call's word by the mode.
-fn called<'a>(mode: u64, framework: &'a [u8], pi: &'a [u8]) -> &'a [u8] {
+pub(crate) fn called<'a>(mode: u64, framework: &'a [u8], pi: &'a [u8]) -> &'a [u8] {
     if mode == 0 { framework } else { pi }
 }
 

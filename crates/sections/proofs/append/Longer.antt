@@ -32,13 +32,13 @@ use Rattle.sections.proofs.walk.Starts.{walkFrom, walk-from-start, walk
 then-assoc : (x u v : Trace) → andThen (andThen x u) v ≡ andThen x (andThen u v)
 unfolding andThen
 then-assoc done u v = refl
-then-assoc (fault n) u v = refl
+then-assoc (fault n _ _) u v = refl
 then-assoc (section t f e rest) u v = ap (section t f e) (then-assoc rest u v)
 
 none-then : (x u : Trace) → firstFault (andThen x u) ≡ none → firstFault u ≡ none
 unfolding andThen firstFault
 none-then done u p = p
-none-then (fault n) u p = let z : _≡_ {A = ℕ} 0 1 = cc in absurd (omega arith)
+none-then (fault n _ _) u p = let z : _≡_ {A = ℕ} 0 1 = cc in absurd (omega arith)
 none-then (section t f e rest) u p = none-then rest u p
 
 -- the numbers in a leaf's header: in a long one FF FF FF and then the size, in a short one the size
@@ -244,7 +244,7 @@ module _ (mode : Mode) (s : List ℕ) (sectionType : ℕ) (body : List ℕ) wher
         let q = least-header mode m in
         walk-closed mode n after base start (omega arith) leaf-head
         ∙ ap (section sectionType (base + (start + header)) (base + finish))
-        (padding-zero after finish (walkFrom mode n after base) (zeros-past after finish (aligned finish - finish) (omega arith))
+        (padding-zero after base finish (walkFrom mode n after base) (zeros-past after finish (aligned finish - finish) (omega arith))
         ∙ walk-end mode n after base (aligned finish) (omega arith))
 
     -- the walk at a start inside the old stream, in the new one, where the walk from each later start has the new section at its end
@@ -261,12 +261,12 @@ module _ (mode : Mode) (s : List ℕ) (sectionType : ℕ) (body : List ℕ) wher
         let l = after-length in
         let rest = walkFrom mode n s base in
         let old = walk-closed mode n s base at inside p in
-        let pad = padding-none s e rest (rw old at well) in
+        let pad = padding-none s base e rest (rw old at well) in
         let next = later (aligned e) (omega arith) (omega arith) (omega arith) (pad .1) in
         walk-closed mode n after base at (omega arith) (kept-head at (is-closed mode s at p .whole) ∙ p)
         ∙ ap (section t (base + first) (base + e))
-        (padding-zero after e (walkFrom mode n after base) (kept-padding e (w .4) (pad .0)) ∙ next
-        ∙ ap (λ (x : Trace). andThen x (new base)) (sym (padding-zero s e rest (pad .0))))
+        (padding-zero after base e (walkFrom mode n after base) (kept-padding e (w .4) (pad .0)) ∙ next
+        ∙ ap (λ (x : Trace). andThen x (new base)) (sym (padding-zero s base e rest (pad .0))))
         ∙ sym (ap (λ (x : Trace). andThen x (new base)) old)
     kept zero base at (Open t first f e) p inside later well =
         let q : _≡_ {A = Option ℕ} (some 205) none = rw (walk-205 mode s base at inside p) at well in
@@ -277,14 +277,14 @@ module _ (mode : Mode) (s : List ℕ) (sectionType : ℕ) (body : List ℕ) wher
         let rest = walkFrom mode (suc n) s base in
         let children = walk mode n (part f e s) (base + f) in
         let old = walk-open mode n s base at inside p in
-        let pad = padding-none s e rest (none-then children (afterPadding s e rest) (rw old at well)) in
+        let pad = padding-none s base e rest (none-then children (afterPadding s base e rest) (rw old at well)) in
         let next = later (aligned e) (omega arith) (omega arith) (omega arith) (pad .1) in
         walk-open mode n after base at (omega arith) (kept-head at (is-open mode s at p .whole) ∙ p)
         ∙ ap₂ (λ (l : List ℕ) (x : Trace). section t (base + first) (base + e) (andThen (walk mode n l (base + f)) x))
         (same-part f e (w .4) (w .5))
-        (padding-zero after e (walkFrom mode (suc n) after base) (kept-padding e (w .5) (pad .0)) ∙ next
-        ∙ ap (λ (x : Trace). andThen x (new base)) (sym (padding-zero s e rest (pad .0))))
-        ∙ ap (section t (base + first) (base + e)) (sym (then-assoc children (afterPadding s e rest) (new base)))
+        (padding-zero after base e (walkFrom mode (suc n) after base) (kept-padding e (w .5) (pad .0)) ∙ next
+        ∙ ap (λ (x : Trace). andThen x (new base)) (sym (padding-zero s base e rest (pad .0))))
+        ∙ ap (section t (base + first) (base + e)) (sym (then-assoc children (afterPadding s base e rest) (new base)))
         ∙ sym (ap (λ (x : Trace). andThen x (new base)) old)
 
     longer : (fuel n base at : ℕ) → length s ≤ at + fuel → at % 4 ≡ 0 → at ≤ start → firstFault (walkFrom mode n s base at) ≡ none

@@ -186,14 +186,17 @@ module _ (mode : Mode) (s : List ℕ) (at : ℕ) where
   faults-exactly n = (applies n, answered n)
 
   -- in particular no fault is 0 or 1
-  pub fault-number : (n : ℕ) → headAt mode s at ≡ Fault n → 1 < n
-  fault-number n p = go (applies n p)
+  pub fault-range : (n : ℕ) → headAt mode s at ≡ Fault n → (201 ≤ n) × (n ≤ 204)
+  fault-range n p = go (applies n p)
     where
-      go : FirstFault mode s at n → 1 < n
-      go (inl (e, a)) = omega arith
-      go (inr (inl (e, a, b))) = omega arith
-      go (inr (inr (inl (e, a, b, d)))) = omega arith
-      go (inr (inr (inr (e, a, b, d, w)))) = omega arith
+      go : FirstFault mode s at n → (201 ≤ n) × (n ≤ 204)
+      go (inl (e, a)) = (omega arith, omega arith)
+      go (inr (inl (e, a, b))) = (omega arith, omega arith)
+      go (inr (inr (inl (e, a, b, d)))) = (omega arith, omega arith)
+      go (inr (inr (inr (e, a, b, d, w)))) = (omega arith, omega arith)
+
+  pub fault-number : (n : ℕ) → headAt mode s at ≡ Fault n → 1 < n
+  fault-number n p = let r = fault-range n p in omega arith
 
   module _ (f : Fits mode left s at) where
     -- where none applies the section is there

@@ -9,17 +9,12 @@ use borrow.Author.Tests.{ne-eqb, eqb-true}
 use lib.Dec.{eqb, ltb}
 use lib.ListN.{length, getD}
 use Rattle.numbers.proofs.LittleEndian.{le-same}
-use Rattle.sections.specs.Types.{compression, guidDefined, commonHeader, typeInfo}
+use Rattle.sections.specs.Types.{compression, guidDefined, typeInfo}
 use Rattle.sections.specs.Header.{sizeField, isLong, headerLength, sizeAt, typeAt, unpackedLength, compressionKind, dataOffset, attributes}
-use Rattle.sections.specs.Header.{isHolder, contentsAt, packed, wrongContents, sizeFaults, headFaults, sectionOf, headAt}
+use Rattle.sections.specs.Header.{isHolder, ownFields, contentsAt, packed, wrongContents, sizeFaults, headFaults, sectionOf, headIn, headAt}
 use Rattle.sections.specs.declared.header.Mode.{Mode}
 use Rattle.sections.proofs.types.Rows.{least-range, least-compression, least-guid, not-holder, holds-compression, holds-guid}
 use Rattle.sections.proofs.header.Sizes.{header-range, long-header, short-size, long-size}
-
--- the fields of a holder, which stand after its header and say what it holds: a compression section's unpacked length and kind, and the GUID,
--- the data offset and the attributes of a GUID-defined one
-unfoldable pub ownFields : (sectionType : ℕ) → ℕ
-ownFields sectionType = cond (isHolder (typeInfo sectionType .class)) (typeInfo sectionType .least - commonHeader) 0
 
 own-compression : (t : ℕ) → eqb t compression ≡ true → ownFields t ≡ 5
 unfolding ownFields
@@ -106,5 +101,5 @@ module _ (mode : Mode) (s s′ : List ℕ) (at : ℕ)
 
   pub head-same : ltb (length s - at) 4 ≡ ltb (length s′ - at) 4 → ltb (length s - at) h ≡ ltb (length s′ - at) h
       → ltb (length s - at) z ≡ ltb (length s′ - at) z → headAt mode s at ≡ headAt mode s′ at
-  unfolding headAt headFaults sizeFaults
+  unfolding headIn headAt headFaults sizeFaults
   head-same four headed fits = rw (← same-header, ← same-size, ← same-type, four, headed, fits, same-fields .0, same-fields .1)

@@ -11,12 +11,11 @@ use borrow.Author.Tests.{eq-eqb, eqb-true, lt-ltb}
 use lib.Dec.{eqb}
 use lib.ListN.{length, getElem?}
 use Rattle.common.specs.Answers.{refused, success}
-use Rattle.sections.specs.Header.{headAt}
+use Rattle.sections.specs.Header.{ownFields, headAt}
 use Rattle.sections.specs.Walk.{Trace, done, fault, section, streamLimit, streamWalk}
 use Rattle.sections.specs.Search.{Section, sections, firstFault, ofType, partAnswer, searchOf, firstAnswer, searchFirstOf, WellFormed}
 use Rattle.sections.specs.declared.header.Head.the-variants.{Fault, Closed, Open}
 use Rattle.sections.specs.declared.header.Mode.{Mode}
-use Rattle.sections.proofs.header.Decided.{ownFields}
 use Rattle.sections.proofs.search.Shown.{nth-past}
 use Rattle.sections.proofs.walk.Inside.{Inside, inside-stream}
 use Rattle.sections.proofs.walk.Starts.{walkFrom, walk-fault, walk-closed, walk-205, walk-open}
@@ -25,7 +24,7 @@ use Rattle.sections.proofs.walk.Starts.{walkFrom, walk-fault, walk-clos
 first-good : (t : ℕ) (x : Trace) → firstFault x ≡ none → firstAnswer t x ≡ partAnswer (getElem? (ofType t (sections x)) 0)
 unfolding firstAnswer firstFault sections ofType
 first-good t done good = refl
-first-good t (fault n) good = let z : _≡_ {A = ℕ} 0 1 = cc in absurd (omega arith)
+first-good t (fault n _ _) good = let z : _≡_ {A = ℕ} 0 1 = cc in absurd (omega arith)
 first-good t (section u f e rest) good = go (eqb u t) (first-good t rest good)
   where
     go : (b : Bool) → firstAnswer t rest ≡ partAnswer (getElem? (ofType t (sections rest)) 0)
@@ -51,7 +50,7 @@ pub record FirstMatch (t : ℕ) (x : Trace) (f e : ℕ) : Type 0 where
 first-match : (t : ℕ) (x : Trace) (f e : ℕ) → firstAnswer t x ≡ success (f ∷ e ∷ []) → FirstMatch t x f e
 unfolding firstAnswer after ofType
 first-match t done f e p = let z : _≡_ {A = ℕ} 0 1 = cc in absurd (omega arith)
-first-match t (fault n) f e p = let z : _≡_ {A = ℕ} 0 1 = cc in absurd (omega arith)
+first-match t (fault n _ _) f e p = let z : _≡_ {A = ℕ} 0 1 = cc in absurd (omega arith)
 first-match t (section u a b rest) f e p = go (eqb u t) refl p (first-match t rest f e)
   where
     go : (c : Bool) → eqb u t ≡ c → cond c (success (a ∷ b ∷ [])) (firstAnswer t rest) ≡ success (f ∷ e ∷ [])
@@ -94,7 +93,7 @@ NoneMet t x n = (length (ofType t (sections x)) ≡ 0) × ((firstFault x ≡ som
 refused-none : (t : ℕ) (x : Trace) (n : ℕ) → firstAnswer t x ≡ refused n → NoneMet t x n
 unfolding firstAnswer firstFault sections ofType
 refused-none t done n p = (refl, inr (refl, cc))
-refused-none t (fault m) n p = let q : m ≡ n = cc in (refl, inl (rw q))
+refused-none t (fault m _ _) n p = let q : m ≡ n = cc in (refl, inl (rw q))
 refused-none t (section u f e rest) n p = go (eqb u t) p (refused-none t rest n)
   where
     go : (c : Bool) → cond c (success (f ∷ e ∷ [])) (firstAnswer t rest) ≡ refused n → (firstAnswer t rest ≡ refused n → NoneMet t rest n)
@@ -107,8 +106,8 @@ none-refused : (t : ℕ) (x : Trace) (n : ℕ) → NoneMet t x n → firstAnswer
 unfolding firstAnswer firstFault sections ofType
 none-refused t done n (p, inl q) = let z : _≡_ {A = ℕ} 0 1 = cc in absurd (omega arith)
 none-refused t done n (p, inr (q, r)) = rw r
-none-refused t (fault m) n (p, inl q) = let r : m ≡ n = cc in rw r
-none-refused t (fault m) n (p, inr (q, r)) = let z : _≡_ {A = ℕ} 0 1 = cc in absurd (omega arith)
+none-refused t (fault m _ _) n (p, inl q) = let r : m ≡ n = cc in rw r
+none-refused t (fault m _ _) n (p, inr (q, r)) = let z : _≡_ {A = ℕ} 0 1 = cc in absurd (omega arith)
 none-refused t (section u f e rest) n (p, q) = go (eqb u t) p (λ h. none-refused t rest n (h, q))
   where
     go : (c : Bool) → length (cond c (record { sectionType = u; first = f; end = e } ∷ ofType t (sections rest)) (ofType t (sections rest))) ≡ 0

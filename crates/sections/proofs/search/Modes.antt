@@ -10,8 +10,8 @@ use borrow.Author.Tests.{le-ltb, ltb-true, ltb-false, ne-eqb}
 use lib.Dec.{ltb}
 use lib.ListN.{length, getD}
 use Rattle.numbers.specs.LittleEndian.{le}
-use Rattle.sections.specs.Header.{sizeField, largestField, sizeFaults, headFaults, headAt}
-use Rattle.sections.specs.Walk.{Trace, done, fault, section, andThen, aligned, zeros, part, afterPadding, meet, siblings, walk, streamLimit, streamWalk}
+use Rattle.sections.specs.Header.{sizeField, largestField, sizeFaults, headFaults, headIn, headAt}
+use Rattle.sections.specs.Walk.{Trace, done, fault, section, andThen, aligned, zeros, firstNonzero, part, afterPadding, meet, siblings, walk, streamLimit, streamWalk}
 use Rattle.sections.specs.Search.{firstFault, searchOf, firstAnswer, searchFirstOf}
 use Rattle.sections.specs.declared.header.Mode.{Mode}
 use Rattle.sections.specs.declared.header.Mode.the-variants.{Framework, Pi}
@@ -42,7 +42,7 @@ NoLongField mode n s at = Reaches mode LongField n s at → ⊥
 
 -- where no such field is, the header at a start is the same
 head-modes : (mode mode′ : Mode) (s : List ℕ) (at : ℕ) → (LongField s at → ⊥) → headAt mode s at ≡ headAt mode′ s at
-unfolding headAt headFaults sizeFaults
+unfolding headIn headAt headFaults sizeFaults
 head-modes mode mode′ s at other = go (ltb (length s - at) 4) refl
   where
     go : (b : Bool) → ltb (length s - at) 4 ≡ b → headAt mode s at ≡ headAt mode′ s at
@@ -59,33 +59,34 @@ head-modes mode mode′ s at other = go (ltb (length s - at) 4) refl
         rw (short-header mode s at e, short-header mode′ s at e′, short-size mode s at e, short-size mode′ s at e′)
 
 -- what follows counts only where the walk comes to it
-padding-same : (s : List ℕ) (e : ℕ) (rest rest′ : ℕ → Trace) → (zeros s e (aligned e - e) ≡ true → rest (aligned e) ≡ rest′ (aligned e))
-    → afterPadding s e rest ≡ afterPadding s e rest′
+padding-same : (s : List ℕ) (base e : ℕ) (rest rest′ : ℕ → Trace) → (zeros s e (aligned e - e) ≡ true → rest (aligned e) ≡ rest′ (aligned e))
+    → afterPadding s base e rest ≡ afterPadding s base e rest′
 unfolding afterPadding
-padding-same s e rest rest′ same = go (zeros s e (aligned e - e)) refl
+padding-same s base e rest rest′ same = go (zeros s e (aligned e - e)) refl
   where
-    go : (b : Bool) → zeros s e (aligned e - e) ≡ b → cond b (rest (aligned e)) (fault 207) ≡ cond b (rest′ (aligned e)) (fault 207)
+    go : (b : Bool) → zeros s e (aligned e - e) ≡ b → cond b (rest (aligned e)) (fault 207 (base + firstNonzero s e (aligned e - e)) (base + length s))
+        ≡ cond b (rest′ (aligned e)) (fault 207 (base + firstNonzero s e (aligned e - e)) (base + length s))
     go true z = same z
     go false z = refl
 
 then-same : (x u u′ : Trace) → (firstFault x ≡ none → u ≡ u′) → andThen x u ≡ andThen x u′
 unfolding andThen firstFault
 then-same done u u′ same = same refl
-then-same (fault n) u u′ same = refl
+then-same (fault n _ _) u u′ same = refl
 then-same (section t f e rest) u u′ same = ap (section t f e) (then-same rest u u′ same)
 
 -- the walk at a start, and from it on
 module _ (mode mode′ : Mode) (n : ℕ) (inner inner′ : List ℕ → ℕ → Trace) where
   abbrev MeetSame : Type 0
   MeetSame = (s : List ℕ) (base at : ℕ) (rest rest′ : ℕ → Trace) (h : Head) → headAt mode s at ≡ h → NoLongField mode n s at
-      → ((next : ℕ) → NoLongField mode n s next → rest next ≡ rest′ next) → meet n inner s base h rest ≡ meet n inner′ s base h rest′
+      → ((next : ℕ) → NoLongField mode n s next → rest next ≡ rest′ next) → meet n inner s base at h rest ≡ meet n inner′ s base at h rest′
 
   closed-same : (s : List ℕ) (base at : ℕ) (rest rest′ : ℕ → Trace) {t first e : ℕ} → headAt mode s at ≡ Closed t first e → NoLongField mode n s at
       → ((next : ℕ) → NoLongField mode n s next → rest next ≡ rest′ next)
-      → meet n inner s base (Closed t first e) rest ≡ meet n inner′ s base (Closed t first e) rest′
+      → meet n inner s base at (Closed t first e) rest ≡ meet n inner′ s base at (Closed t first e) rest′
   unfolding meet
   closed-same s base at rest rest′ {t} {first} {e} p unmet q =
-      ap (section t (base + first) (base + e)) (padding-same s e rest rest′ (λ z. q (aligned e) (λ u. unmet (after-closed p z u))))
+      ap (section t (base + first) (base + e)) (padding-same s base e rest rest′ (λ z. q (aligned e) (λ u. unmet (after-closed p z u))))
 
   siblings-modes : MeetSame → (fuel : ℕ) (s : List ℕ) (base at : ℕ) → NoLongField mode n s at
       → siblings mode n inner fuel s base at ≡ siblings mode′ n inner′ fuel s base at
@@ -113,8 +114,8 @@ next-level mode mode′ n below s base at rest rest′ (Closed t first e) p unme
     closed-same mode mode′ (suc n) (walk mode n) (walk mode′ n) s base at rest rest′ p unmet q
 next-level mode mode′ n below s base at rest rest′ (Open t first f e) p unmet q =
     let children = below (part f e s) (base + f) (λ u. unmet (inside p u)) in
-    let after = then-same (walk mode n (part f e s) (base + f)) (afterPadding s e rest) (afterPadding s e rest′)
-    (λ good. padding-same s e rest rest′ (λ z. q (aligned e) (λ u. unmet (after-open (base + f) p good z u)))) in
+    let after = then-same (walk mode n (part f e s) (base + f)) (afterPadding s base e rest) (afterPadding s base e rest′)
+    (λ good. padding-same s base e rest rest′ (λ z. q (aligned e) (λ u. unmet (after-open (base + f) p good z u)))) in
     rw (ne-eqb (suc n) 0 (λ z. omega arith), ← children) (ap (section t (base + first) (base + e)) after)
 
 walk-modes : (mode mode′ : Mode) (n : ℕ) (s : List ℕ) (base : ℕ) → NoLongField mode n s 0 → walk mode n s base ≡ walk mode′ n s base

@@ -16,13 +16,13 @@ use Rattle.sections.proofs.walk.Starts.{walkFrom, walk-open}
 pub sections-then : (x u : Trace) → firstFault x ≡ none → sections (andThen x u) ≡ sections x ++ sections u
 unfolding firstFault sections andThen
 sections-then done u p = refl
-sections-then (fault n) u p = let z : _≡_ {A = ℕ} 0 1 = cc in absurd (omega arith)
+sections-then (fault n _ _) u p = let z : _≡_ {A = ℕ} 0 1 = cc in absurd (omega arith)
 sections-then (section t f e rest) u p = ap (λ (l : List Section). record { sectionType = t; first = f; end = e } ∷ l) (sections-then rest u p)
 
 pub fault-then : (x u : Trace) → firstFault x ≡ none → firstFault (andThen x u) ≡ firstFault u
 unfolding firstFault andThen
 fault-then done u p = refl
-fault-then (fault n) u p = let z : _≡_ {A = ℕ} 0 1 = cc in absurd (omega arith)
+fault-then (fault n _ _) u p = let z : _≡_ {A = ℕ} 0 1 = cc in absurd (omega arith)
 fault-then (section t f e rest) u p = fault-then rest u p
 
 module _ (mode : Mode) where
@@ -31,9 +31,9 @@ module _ (mode : Mode) where
       → firstFault (walk mode n (part f e s) (base + f)) ≡ none
       → sections (walkFrom mode (suc n) s base at)
       ≡ record { sectionType = t; first = base + first; end = base + e }
-      ∷ (sections (walk mode n (part f e s) (base + f)) ++ sections (afterPadding s e (walkFrom mode (suc n) s base)))
+      ∷ (sections (walk mode n (part f e s) (base + f)) ++ sections (afterPadding s base e (walkFrom mode (suc n) s base)))
   unfolding sections
   holder-first n s base at {t} {first} {f} {e} h p q =
       ap sections (walk-open mode n s base at h p)
       ∙ ap (λ (l : List Section). record { sectionType = t; first = base + first; end = base + e } ∷ l)
-      (sections-then (walk mode n (part f e s) (base + f)) (afterPadding s e (walkFrom mode (suc n) s base)) q)
+      (sections-then (walk mode n (part f e s) (base + f)) (afterPadding s base e (walkFrom mode (suc n) s base)) q)

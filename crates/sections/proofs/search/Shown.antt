@@ -24,7 +24,7 @@ inside-nth : (low high w i : ℕ) (t : Trace) (x : Section) → Inside low high 
     → (low ≤ x .first) × (x .first ≤ x .end) × (x .end ≤ high)
 unfolding ofType sections
 inside-nth low high w i done x p q = let z : _≡_ {A = ℕ} 0 1 = cc in absurd (omega arith)
-inside-nth low high w i (fault n) x p q = let z : _≡_ {A = ℕ} 0 1 = cc in absurd (omega arith)
+inside-nth low high w i (fault n _ _) x p q = let z : _≡_ {A = ℕ} 0 1 = cc in absurd (omega arith)
 inside-nth low high w i (section t f e rest) x p q = go (eqb t w) i q (λ (j : ℕ). inside-nth low high w j rest x (p .3))
   where
     go : (b : Bool) (i : ℕ)
@@ -77,7 +77,7 @@ module _ (mode : Mode) where
 
   -- the walk through a whole stream, by the test of 206
   abbrev limited : Bool → List ℕ → Trace
-  limited b s = cond b (fault 206) (walk mode 7 s 0)
+  limited b s = cond b (fault 206 0 (length s)) (walk mode 7 s 0)
 
   -- a part that is shown lies inside the stream
   pub part-inside : (s : List ℕ) (t instance f e : ℕ) → searchOf mode s t instance ≡ success (f ∷ e ∷ []) → (f ≤ e) × (e ≤ length s)

@@ -12,13 +12,13 @@ use lib.ListN.{length, getD, length-take, length-drop}
 use lib.Seq.{ext-getD}
 use Rattle.common.specs.Answers.{success}
 use Rattle.sections.specs.Types.{typeInfo}
-use Rattle.sections.specs.Header.{headerLength, sizeAt, typeAt, leastSize, headAt}
-use Rattle.sections.specs.Walk.{Trace, done, fault, section, andThen, aligned, zeros, part, afterPadding, meet, siblings, walk, streamLimit, streamWalk}
+use Rattle.sections.specs.Header.{headerLength, sizeAt, typeAt, leastSize, ownFields, headAt}
+use Rattle.sections.specs.Walk.{Trace, done, fault, section, andThen, aligned, zeros, firstNonzero, part, afterPadding, meet, siblings, walk, streamLimit, streamWalk}
 use Rattle.sections.specs.Search.{firstAnswer, searchFirstOf}
 use Rattle.sections.specs.declared.header.Head.{Head}
 use Rattle.sections.specs.declared.header.Head.the-variants.{Fault, Closed, Open}
 use Rattle.sections.specs.declared.header.Mode.{Mode}
-use Rattle.sections.proofs.header.Decided.{ownFields, own-least, head-same}
+use Rattle.sections.proofs.header.Decided.{own-least, head-same}
 use Rattle.sections.proofs.header.Extent.{is-closed, is-open, closed-within, open-within}
 use Rattle.sections.proofs.header.Sizes.{header-range}
 use Rattle.sections.proofs.walk.Padding.{zeros-same}
@@ -44,7 +44,7 @@ module _ {high base : ℕ} {s s′ : List ℕ} (a : Alike high base s s′) (f e
 then-shown : (t : ℕ) (x y : Trace) (l : List ℕ) → firstAnswer t x ≡ success l → firstAnswer t (andThen x y) ≡ success l
 unfolding firstAnswer andThen
 then-shown t done y l p = let z : _≡_ {A = ℕ} 0 1 = cc in absurd (omega arith)
-then-shown t (fault n) y l p = let z : _≡_ {A = ℕ} 0 1 = cc in absurd (omega arith)
+then-shown t (fault n _ _) y l p = let z : _≡_ {A = ℕ} 0 1 = cc in absurd (omega arith)
 then-shown t (section u f e rest) y l p = go (eqb u t) p (then-shown t rest y l)
   where
     go : (b : Bool) → cond b (success (f ∷ e ∷ [])) (firstAnswer t rest) ≡ success l → (firstAnswer t rest ≡ success l → firstAnswer t (andThen rest y) ≡ success l)
@@ -58,7 +58,7 @@ Passed t x = (y : Trace) → firstAnswer t (andThen x y) ≡ firstAnswer t y
 then-cases : (t : ℕ) (x y : Trace) (l : List ℕ) → firstAnswer t (andThen x y) ≡ success l → (firstAnswer t x ≡ success l) ⊎ (Passed t x × (firstAnswer t y ≡ success l))
 unfolding firstAnswer andThen
 then-cases t done y l p = inr (λ z. refl, p)
-then-cases t (fault n) y l p = let z : _≡_ {A = ℕ} 0 1 = cc in absurd (omega arith)
+then-cases t (fault n _ _) y l p = let z : _≡_ {A = ℕ} 0 1 = cc in absurd (omega arith)
 then-cases t (section u f e rest) y l p = go (eqb u t) p (then-cases t rest y l)
   where
     go : (b : Bool) → cond b (success (f ∷ e ∷ [])) (firstAnswer t (andThen rest y)) ≡ success l
@@ -85,11 +85,11 @@ module _ (mode : Mode) (t f e high : ℕ) (reach : f + ownFields t ≤ high) whe
   Kept base at x x′ = Shows x → (base + at + 4 ≤ f) × Shows x′
 
   module _ {base : ℕ} {s s′ : List ℕ} (a : Alike high base s s′) (rest rest′ : ℕ → Trace) (later : (next : ℕ) → Kept base next (rest next) (rest′ next)) where
-    kept-padding : (end : ℕ) → Shows (afterPadding s end rest) → (base + end + 4 ≤ f) × Shows (afterPadding s′ end rest′)
+    kept-padding : (end : ℕ) → Shows (afterPadding s base end rest) → (base + end + 4 ≤ f) × Shows (afterPadding s′ base end rest′)
     unfolding afterPadding firstAnswer
     kept-padding end p = go (zeros s end (aligned end - end)) refl p
       where
-        go : (b : Bool) → zeros s end (aligned end - end) ≡ b → Shows (cond b (rest (aligned end)) (fault 207)) → (base + end + 4 ≤ f) × Shows (afterPadding s′ end rest′)
+        go : (b : Bool) → zeros s end (aligned end - end) ≡ b → Shows (cond b (rest (aligned end)) (fault 207 (base + firstNonzero s end (aligned end - end)) (base + length s))) → (base + end + 4 ≤ f) × Shows (afterPadding s′ base end rest′)
         go true z q =
             let k = later (aligned end) q in
             let same : zeros s end (aligned end - end) ≡ zeros s′ end (aligned end - end) =
@@ -115,7 +115,7 @@ module _ (mode : Mode) (t f e high : ℕ) (reach : f + ownFields t ≤ high) whe
         → (base + at + 4 ≤ f) × (headAt mode s′ at ≡ h) × (cond b (success ((base + first) ∷ (base + end) ∷ [])) (firstAnswer t x′) ≡ success (f ∷ e ∷ []))
 
     kept-closed : (at : ℕ) {u first end : ℕ} → headAt mode s at ≡ Closed u first end → (b : Bool) → eqb u t ≡ b
-        → Passes at u first end (Closed u first end) (afterPadding s end rest) (afterPadding s′ end rest′) b
+        → Passes at u first end (Closed u first end) (afterPadding s base end rest) (afterPadding s′ base end rest′) b
     kept-closed at {u} {first} {end} h true x p =
         let c = is-closed mode s at h in
         let w = closed-within mode s at h in
@@ -131,20 +131,20 @@ module _ (mode : Mode) (t f e high : ℕ) (reach : f + ownFields t ≤ high) whe
     module _ (inner : List ℕ → ℕ → Trace)
         (below : (l l′ : List ℕ) (b : ℕ) → Alike high b l l′ → Shows (inner l b) → (b ≤ f) × Shows (inner l′ b)) where
       kept-open : (at : ℕ) {u first from end : ℕ} → headAt mode s at ≡ Open u first from end → (b : Bool) → eqb u t ≡ b
-          → Passes at u first end (Open u first from end) (andThen (inner (part from end s) (base + from)) (afterPadding s end rest))
-          (andThen (inner (part from end s′) (base + from)) (afterPadding s′ end rest′)) b
+          → Passes at u first end (Open u first from end) (andThen (inner (part from end s) (base + from)) (afterPadding s base end rest))
+          (andThen (inner (part from end s′) (base + from)) (afterPadding s′ base end rest′)) b
       kept-open at {u} {first} {from} {end} h true x p =
           let c = is-open mode s at h in
           let w = open-within mode s at h in
           let place : base + first ≡ f = cc in
           (omega arith, alike-head a at (own-low at (c .typed) (c .shows) (eqb-true u t x) place) ∙ h, p)
       kept-open at {u} {first} {from} {end} h false x p =
-          go (then-cases t (inner (part from end s) (base + from)) (afterPadding s end rest) (f ∷ e ∷ []) p)
+          go (then-cases t (inner (part from end s) (base + from)) (afterPadding s base end rest) (f ∷ e ∷ []) p)
         where
           after′ : Trace
-          after′ = afterPadding s′ end rest′
+          after′ = afterPadding s′ base end rest′
 
-          go : Shows (inner (part from end s) (base + from)) ⊎ (Passed t (inner (part from end s) (base + from)) × Shows (afterPadding s end rest))
+          go : Shows (inner (part from end s) (base + from)) ⊎ (Passed t (inner (part from end s) (base + from)) × Shows (afterPadding s base end rest))
               → (base + at + 4 ≤ f) × (headAt mode s′ at ≡ Open u first from end) × Shows (andThen (inner (part from end s′) (base + from)) after′)
           go (inl q) =
               let c = is-open mode s at h in
@@ -166,20 +166,20 @@ module _ (mode : Mode) (t f e high : ℕ) (reach : f + ownFields t ≤ high) whe
                 rw (← same) (passed after′ ∙ k .1),
               )
 
-      kept-meet : (n at : ℕ) (h : Head) → headAt mode s at ≡ h → Shows (meet n inner s base h rest)
-          → (base + at + 4 ≤ f) × (headAt mode s′ at ≡ h) × Shows (meet n inner s′ base h rest′)
+      kept-meet : (n at : ℕ) (h : Head) → headAt mode s at ≡ h → Shows (meet n inner s base at h rest)
+          → (base + at + 4 ≤ f) × (headAt mode s′ at ≡ h) × Shows (meet n inner s′ base at h rest′)
       unfolding meet firstAnswer
       kept-meet n at (Fault m) h p = let z : _≡_ {A = ℕ} 0 1 = cc in absurd (omega arith)
       kept-meet n at (Closed u first end) h p = kept-closed at h (eqb u t) refl p
       kept-meet n at (Open u first from end) h p = go (eqb n 0) p
         where
           x : Trace
-          x = section u (base + first) (base + end) (andThen (inner (part from end s) (base + from)) (afterPadding s end rest))
+          x = section u (base + first) (base + end) (andThen (inner (part from end s) (base + from)) (afterPadding s base end rest))
 
           x′ : Trace
-          x′ = section u (base + first) (base + end) (andThen (inner (part from end s′) (base + from)) (afterPadding s′ end rest′))
+          x′ = section u (base + first) (base + end) (andThen (inner (part from end s′) (base + from)) (afterPadding s′ base end rest′))
 
-          go : (b : Bool) → Shows (cond b (fault 205) x) → (base + at + 4 ≤ f) × (headAt mode s′ at ≡ Open u first from end) × Shows (cond b (fault 205) x′)
+          go : (b : Bool) → Shows (cond b (fault 205 (base + at) (base + length s)) x) → (base + at + 4 ≤ f) × (headAt mode s′ at ≡ Open u first from end) × Shows (cond b (fault 205 (base + at) (base + length s′)) x′)
           go true q = let z : _≡_ {A = ℕ} 0 1 = cc in absurd (omega arith)
           go false q = kept-open at h (eqb u t) refl q
 
@@ -192,12 +192,12 @@ module _ (mode : Mode) (t f e high : ℕ) (reach : f + ownFields t ≤ high) whe
         (kept-meet a (siblings mode n inner fuel s base) (siblings mode n inner fuel s′ base) (λ next. kept-siblings fuel s s′ base next a) inner below n at (headAt mode s at) refl)
       where
         x : Trace
-        x = meet n inner s base (headAt mode s at) (siblings mode n inner fuel s base)
+        x = meet n inner s base at (headAt mode s at) (siblings mode n inner fuel s base)
 
         go : (b : Bool) → ltb at (length s) ≡ b → Shows (cond b x done)
-            → (Shows x → (base + at + 4 ≤ f) × (headAt mode s′ at ≡ headAt mode s at) × Shows (meet n inner s′ base (headAt mode s at) (siblings mode n inner fuel s′ base)))
+            → (Shows x → (base + at + 4 ≤ f) × (headAt mode s′ at ≡ headAt mode s at) × Shows (meet n inner s′ base at (headAt mode s at) (siblings mode n inner fuel s′ base)))
             → (base + at + 4 ≤ f) × Shows (siblings mode n inner (suc fuel) s′ base at)
-        go true c q met = let k = met q in (k .0, rw (← a .long, c, k .1) (k .2))
+        go true c q met = let k = met q in (k .0, rw (k .1, ← a .long, c) (k .2))
         go false c q met = let z : _≡_ {A = ℕ} 0 1 = cc in absurd (omega arith)
 
   kept-walk : (n : ℕ) (s s′ : List ℕ) (base : ℕ) → Alike high base s s′ → Shows (walk mode n s base) → (base ≤ f) × Shows (walk mode n s′ base)
@@ -215,7 +215,7 @@ pub first-stops : (mode : Mode) (s s′ : List ℕ) (t f e : ℕ) → searchFirs
 unfolding streamWalk firstAnswer
 first-stops mode s s′ t f e p long same = go (ltb (streamLimit mode) (length s)) refl p
   where
-    go : (b : Bool) → ltb (streamLimit mode) (length s) ≡ b → firstAnswer t (cond b (fault 206) (walk mode 7 s 0)) ≡ success (f ∷ e ∷ [])
+    go : (b : Bool) → ltb (streamLimit mode) (length s) ≡ b → firstAnswer t (cond b (fault 206 0 (length s)) (walk mode 7 s 0)) ≡ success (f ∷ e ∷ [])
         → searchFirstOf mode s′ t ≡ success (f ∷ e ∷ [])
     go true c q = let z : _≡_ {A = ℕ} 0 1 = cc in absurd (omega arith)
     go false c q =

@@ -7,6 +7,7 @@ use mathlib.Core.Bool.{true}
 use mathlib.Core.List.{List}
 use mathlib.Core.Logic.{_⊎_, inl, inr}
 use native.Mathlib.Omega.{arith}
+use borrow.Author.Tests.{ne-eqb}
 use lib.Dec.{ltb}
 use lib.ListN.{length, getD, length-take, length-drop}
 use Rattle.sections.specs.Types.{typeInfo}
@@ -19,7 +20,7 @@ use Rattle.sections.specs.declared.header.Mode.{Mode}
 use Rattle.sections.proofs.header.Decided.{own-least, head-same}
 use Rattle.sections.proofs.header.Extent.{is-closed, is-open, closed-within, open-within, contents-within}
 use Rattle.sections.proofs.header.Sizes.{header-range}
-use Rattle.sections.proofs.walk.Padding.{zeros-same}
+use Rattle.sections.proofs.walk.Padding.{zeros-same, nonzero-same}
 use Rattle.sections.proofs.walk.Parts.{parts-alike}
 
 module _ (mode : Mode) where
@@ -141,10 +142,12 @@ module _ (mode : Mode) where
 
     -- the padding of the section at the start, and the stream from the next start on
     module _ (e : ℕ) (low : at ≤ e) (passed : (i : ℕ) → e ≤ i → Unread n s at i → Unread n s (aligned e) i) where
-      same-padding : zeros s e (aligned e - e) ≡ zeros s′ e (aligned e - e)
-      same-padding =
-          zeros-same s s′ e (aligned e - e)
-          (λ i p q. b .bytes i (omega arith) (λ u. let r = unread-range (passed i p u) in omega arith))
+      same-bytes : (i : ℕ) → e ≤ i → i < e + (aligned e - e) → getD s i 0 ≡ getD s′ i 0
+      same-bytes i p q = b .bytes i (omega arith) (λ u. let r = unread-range (passed i p u) in omega arith)
+
+      same-padding : (base : ℕ) (rest : ℕ → Trace) → afterPadding s base e rest ≡ afterPadding s′ base e rest
+      unfolding afterPadding
+      same-padding base rest = rw (zeros-same s s′ e (aligned e - e) same-bytes, nonzero-same s s′ e (aligned e - e) same-bytes, b .long)
 
       same-next : SameBut n s s′ (aligned e)
       same-next = record { long = b .long; bytes = λ i p x. b .bytes i (omega arith) (λ u. x (passed i (omega arith) u)) }
@@ -171,23 +174,25 @@ module _ (mode : Mode) where
   module _ (n : ℕ) (inner : List ℕ → ℕ → Trace)
       (below : (m : ℕ) (l l′ : List ℕ) (b : ℕ) → n ≡ suc m → SameBut m l l′ 0 → inner l b ≡ inner l′ b) where
     meet-unread : (s s′ : List ℕ) (base at : ℕ) (rest rest′ : ℕ → Trace) (h : Head) → headAt mode s at ≡ h → SameBut n s s′ at
-        → ((next : ℕ) → SameBut n s s′ next → rest next ≡ rest′ next) → meet n inner s base h rest ≡ meet n inner s′ base h rest′
+        → ((next : ℕ) → SameBut n s s′ next → rest next ≡ rest′ next) → meet n inner s base at h rest ≡ meet n inner s′ base at h rest′
     unfolding meet afterPadding
-    meet-unread s s′ base at rest rest′ (Fault m) h b q = refl
+    meet-unread s s′ base at rest rest′ (Fault m) h b q = rw (b .long)
     meet-unread s s′ base at rest rest′ (Closed t first e) h b q =
         let w = closed-within mode s at h in
         rw (
-          same-padding n s s′ at b e (omega arith) (λ i p u. closed-after t first e h p u),
+          same-padding n s s′ at b e (omega arith) (λ i p u. closed-after t first e h p u) base rest,
           q (aligned e) (same-next n s s′ at b e (omega arith) (λ i p u. closed-after t first e h p u)),
         )
     meet-unread s s′ base at rest rest′ (Open t first f e) h b q = go n refl
       where
-        go : (k : ℕ) → n ≡ k → meet n inner s base (Open t first f e) rest ≡ meet n inner s′ base (Open t first f e) rest′
-        go zero z = rw z
+        go : (k : ℕ) → n ≡ k → meet n inner s base at (Open t first f e) rest ≡ meet n inner s′ base at (Open t first f e) rest′
+        go zero z = rw (z, b .long)
         go (suc k) z =
             let w = open-within mode s at h in
             rw (
-              same-padding n s s′ at b e (omega arith) (λ i p u. open-after t first f e h p u),
+              z,
+              ne-eqb (suc k) 0 (λ x. omega arith),
+              same-padding n s s′ at b e (omega arith) (λ i p u. open-after t first f e h p u) base rest,
               q (aligned e) (same-next n s s′ at b e (omega arith) (λ i p u. open-after t first f e h p u)),
               below k (part f e s) (part f e s′) (base + f) z (open-contents n s s′ at b k t first f e z h),
             )
@@ -197,8 +202,8 @@ module _ (mode : Mode) where
     siblings-unread zero s s′ base at b = refl
     siblings-unread (suc fuel) s s′ base at b =
         rw (
-          ← b .long,
           ← same-head n s s′ at b,
+          ← b .long,
           meet-unread s s′ base at (siblings mode n inner fuel s base) (siblings mode n inner fuel s′ base) (headAt mode s at) refl b
               (λ next x. siblings-unread fuel s s′ base next x),
         )

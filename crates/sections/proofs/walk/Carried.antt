@@ -119,13 +119,13 @@ module _ (w t f e : ℕ) (l : List ℕ) where
 run-refused : (w n : ℕ) (x : Trace) → run w (Refused n) x ≡ Refused n
 unfolding run halted visited
 run-refused w n done = refl
-run-refused w n (fault m) = refl
+run-refused w n (fault m _ _) = refl
 run-refused w n (section t f e rest) = run-refused w n rest
 
 run-stopped : (w a b : ℕ) (x : Trace) → run w (Stopped a b) x ≡ Stopped a b
 unfolding run halted visited
 run-stopped w a b done = refl
-run-stopped w a b (fault m) = refl
+run-stopped w a b (fault m _ _) = refl
 run-stopped w a b (section t f e rest) = run-stopped w a b rest
 
 -- whatever the walk would still meet changes nothing
@@ -147,7 +147,7 @@ run-halted w n (Stopped f e) x = run-stopped w f e x
 pub run-then : (w : ℕ) (a : Seek) (x y : Trace) → run w a (andThen x y) ≡ run w (run w a x) y
 unfolding run andThen
 run-then w a done y = refl
-run-then w a (fault n) y = sym (run-halted w n a y)
+run-then w a (fault n _ _) y = sym (run-halted w n a y)
 run-then w a (section t f e rest) y = run-then w (visited w a t f e) rest y
 
 -- once the section wanted is met, only a fault can still come
@@ -155,7 +155,7 @@ run-met : (w t f e : ℕ) (x : Trace)
     → seekAnswer (run w (Met f e) x) ≡ unlessRefused refused (firstFault x) (partAnswer (some (record { sectionType = t; first = f; end = e })))
 unfolding run halted visited seekAnswer firstFault
 run-met w t f e done = refl
-run-met w t f e (fault n) = refl
+run-met w t f e (fault n _ _) = refl
 run-met w t f e (section t′ f′ e′ rest) = run-met w t f e rest
 
 -- the search's answer, by what the walk meets
@@ -167,7 +167,7 @@ pub run-answer : (w i : ℕ) (x : Trace)
     → seekAnswer (run w (Left 0 i) x) ≡ unlessRefused refused (firstFault x) (partAnswer (getElem? (ofType w (sections x)) i))
 unfolding run halted visited seekAnswer firstFault sections ofType
 run-answer w i done = refl
-run-answer w i (fault n) = refl
+run-answer w i (fault n _ _) = refl
 run-answer w i (section t f e rest) = go (eqb t w) refl (λ (j : ℕ). run-answer w j rest) i
   where
     go : (b : Bool) → eqb t w ≡ b → ((j : ℕ) → seekAnswer (run w (Left 0 j) rest) ≡ answerFrom w j rest)
@@ -180,7 +180,7 @@ run-answer w i (section t f e rest) = go (eqb t w) refl (λ (j : ℕ). run-answe
 pub run-first : (w stop : ℕ) (x : Trace) → (stop ≡ 0 → ⊥) → seekAnswer (run w (Left stop 0) x) ≡ firstAnswer w x
 unfolding run halted visited seekAnswer firstAnswer
 run-first w stop done stops = refl
-run-first w stop (fault n) stops = refl
+run-first w stop (fault n _ _) stops = refl
 run-first w stop (section t f e rest) stops = go (eqb t w) refl (run-first w stop rest stops)
   where
     go : (b : Bool) → eqb t w ≡ b → seekAnswer (run w (Left stop 0) rest) ≡ firstAnswer w rest

@@ -12,7 +12,7 @@ use lib.Seq.{getD-take, getD-drop}
 use Rattle.sections.specs.Walk.{part}
 
 module _ (f e : ℕ) (s : List ℕ) (j : ℕ) where
-  part-in : j < e - f → getD (part f e s) j 0 ≡ getD s (f + j) 0
+  pub part-in : j < e - f → getD (part f e s) j 0 ≡ getD s (f + j) 0
   part-in low = getD-take (e - f) (drop f s) j 0 low ∙ getD-drop f s j 0
 
   part-past : e - f ≤ j → getD (part f e s) j 0 ≡ 0

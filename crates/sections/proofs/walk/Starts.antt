@@ -33,13 +33,13 @@ module _ (mode : Mode) where
   siblings-end n inner (suc fuel) s base at h = rw (le-ltb at (length s) h)
 
   siblings-here : (n : ℕ) (inner : List ℕ → ℕ → Trace) (fuel : ℕ) (s : List ℕ) (base at : ℕ) → at < length s
-      → siblings mode n inner (suc fuel) s base at ≡ meet n inner s base (headAt mode s at) (siblings mode n inner fuel s base)
+      → siblings mode n inner (suc fuel) s base at ≡ meet n inner s base at (headAt mode s at) (siblings mode n inner fuel s base)
   unfolding siblings
   siblings-here n inner fuel s base at h = rw (lt-ltb at (length s) h)
 
   -- the walk at a start depends on what follows only through the starts after it
   meet-same : (n : ℕ) (inner : List ℕ → ℕ → Trace) (s : List ℕ) (base at : ℕ) (rest rest′ : ℕ → Trace) (h : Head) → headAt mode s at ≡ h
-      → ((next : ℕ) → at + 4 ≤ next → rest next ≡ rest′ next) → meet n inner s base h rest ≡ meet n inner s base h rest′
+      → ((next : ℕ) → at + 4 ≤ next → rest next ≡ rest′ next) → meet n inner s base at h rest ≡ meet n inner s base at h rest′
   unfolding meet afterPadding
   meet-same n inner s base at rest rest′ (Fault m) p q = refl
   meet-same n inner s base at rest rest′ (Closed t first e) p q =
@@ -71,7 +71,7 @@ module _ (mode : Mode) where
           siblings-end n inner (suc j) s base at h ∙ sym (siblings-end n inner (suc k) s base at h)
 
   -- the walk through a stream from a start on
-  pub walkFrom : (below : ℕ) → List ℕ → (base at : ℕ) → Trace
+  unfoldable pub walkFrom : (below : ℕ) → List ℕ → (base at : ℕ) → Trace
   walkFrom n s base at = siblings mode n (deeper n) (length s) s base at
 
   pub walk-from-start : (n : ℕ) (s : List ℕ) (base : ℕ) → walk mode n s base ≡ walkFrom n s base 0
@@ -85,29 +85,30 @@ module _ (mode : Mode) where
     unfolding walkFrom
     walk-end h = siblings-end n (deeper n) (length s) s base at h
 
-    walk-here : at < length s → walkFrom n s base at ≡ meet n (deeper n) s base (headAt mode s at) (walkFrom n s base)
+    walk-here : at < length s → walkFrom n s base at ≡ meet n (deeper n) s base at (headAt mode s at) (walkFrom n s base)
     unfolding walkFrom
     walk-here h =
         siblings-same n (deeper n) (length s) (suc (length s)) s base at (omega arith) (omega arith)
         ∙ siblings-here n (deeper n) (length s) s base at h
 
-    pub walk-fault : {m : ℕ} → at < length s → headAt mode s at ≡ Fault m → walkFrom n s base at ≡ fault m
+    pub walk-fault : {m : ℕ} → at < length s → headAt mode s at ≡ Fault m → walkFrom n s base at ≡ fault m (base + at) (base + length s)
     unfolding meet
     walk-fault h e = walk-here h ∙ rw e
 
     pub walk-closed : {t first e : ℕ} → at < length s → headAt mode s at ≡ Closed t first e
-        → walkFrom n s base at ≡ section t (base + first) (base + e) (afterPadding s e (walkFrom n s base))
+        → walkFrom n s base at ≡ section t (base + first) (base + e) (afterPadding s base e (walkFrom n s base))
     unfolding meet
     walk-closed h e = walk-here h ∙ rw e
 
   -- a holder to be searched on the eighth level, and on one above it
-  pub walk-205 : (s : List ℕ) (base at : ℕ) {t first f e : ℕ} → at < length s → headAt mode s at ≡ Open t first f e → walkFrom 0 s base at ≡ fault 205
+  pub walk-205 : (s : List ℕ) (base at : ℕ) {t first f e : ℕ} → at < length s → headAt mode s at ≡ Open t first f e
+      → walkFrom 0 s base at ≡ fault 205 (base + at) (base + length s)
   unfolding meet
   walk-205 s base at h e = walk-here 0 s base at h ∙ rw e
 
   pub walk-open : (n : ℕ) (s : List ℕ) (base at : ℕ) {t first f e : ℕ} → at < length s → headAt mode s at ≡ Open t first f e
       → walkFrom (suc n) s base at
-      ≡ section t (base + first) (base + e) (andThen (walk mode n (part f e s) (base + f)) (afterPadding s e (walkFrom (suc n) s base)))
+      ≡ section t (base + first) (base + e) (andThen (walk mode n (part f e s) (base + f)) (afterPadding s base e (walkFrom (suc n) s base)))
   unfolding meet
   walk-open n s base at h e = walk-here (suc n) s base at h ∙ rw (e, ne-eqb (suc n) 0 (λ z. omega arith))
 
@@ -118,7 +119,7 @@ module _ (mode : Mode) where
 
   abbrev pub Law : (ℕ → List ℕ → ℕ → ℕ → Trace) → Type 0
   Law W = (n : ℕ) (s : List ℕ) (base at : ℕ)
-      → W n s base at ≡ cond (ltb at (length s)) (meet n (below W n) s base (headAt mode s at) (W n s base)) done
+      → W n s base at ≡ cond (ltb at (length s)) (meet n (below W n) s base at (headAt mode s at) (W n s base)) done
 
   below-walk : (n : ℕ) → below walkFrom n ≡ deeper n
   below-walk zero = refl
@@ -128,7 +129,7 @@ module _ (mode : Mode) where
   walk-law n s base at = go (ltb at (length s)) refl
     where
       go : (b : Bool) → ltb at (length s) ≡ b
-          → walkFrom n s base at ≡ cond (ltb at (length s)) (meet n (below walkFrom n) s base (headAt mode s at) (walkFrom n s base)) done
+          → walkFrom n s base at ≡ cond (ltb at (length s)) (meet n (below walkFrom n) s base at (headAt mode s at) (walkFrom n s base)) done
       go true e =
           rw (e, below-walk n) (walk-here n s base at (ltb-true at (length s) e))
       go false e = rw e (walk-end n s base at (ltb-false at (length s) e))

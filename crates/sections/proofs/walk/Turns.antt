@@ -36,7 +36,7 @@ module _ (mode : Mode) where
       -- b: after the section itself
       module _ {t first e shown end : ℕ} {b : Seek} (h : headAt mode s at ≡ Closed t first e) (v : b ≡ visited w a t shown end) (f : shown ≡ base + first)
           (l : end ≡ base + e) where
-        turn-closed-any : x ≡ run w b (afterPadding s e (walkFrom mode n s base))
+        turn-closed-any : x ≡ run w b (afterPadding s base e (walkFrom mode n s base))
         unfolding run
         turn-closed-any = rw (v, f, l) (g .same ∙ ap (run w a) (walk-closed mode n s base at here h))
 
@@ -45,11 +45,11 @@ module _ (mode : Mode) where
         turn-closed-stop ended = sym (turn-closed-any ∙ ended _)
 
         pub turn-closed : {next : ℕ} → next ≡ aligned e → zeros s e (next - e) ≡ true → Going n s base w x b next
-        turn-closed up z = record { same = rw up (rw (padding-zero s e (walkFrom mode n s base) (rw up at z)) at turn-closed-any) }
+        turn-closed up z = record { same = rw up (rw (padding-zero s base e (walkFrom mode n s base) (rw up at z)) at turn-closed-any) }
 
         pub turn-closed-207 : {next : ℕ} {r : Seek} → next ≡ aligned e → zeros s e (next - e) ≡ false → r ≡ halted 207 b → r ≡ x
         unfolding run
-        turn-closed-207 up z p = p ∙ sym (rw (padding-207 s e (walkFrom mode n s base) (rw up at z)) at turn-closed-any)
+        turn-closed-207 up z p = p ∙ sym (rw (padding-207 s base e (walkFrom mode n s base) (rw up at z)) at turn-closed-any)
 
       pub turn-205 : {t first f e : ℕ} {r : Seek} → headAt mode s at ≡ Open t first f e → n ≡ 0 → r ≡ halted 205 a → r ≡ x
       unfolding run
@@ -58,7 +58,7 @@ module _ (mode : Mode) where
       -- b: after the holder itself; d: after its children, run from b
       module _ {t first f e shown end : ℕ} {b : Seek} (h : headAt mode s at ≡ Open t first f e) (deep : n ≡ 0 → ⊥) (v : b ≡ visited w a t shown end)
           (fb : shown ≡ base + first) (l : end ≡ base + e) where
-        turn-holder : x ≡ run w b (andThen (walk mode (n - 1) (part f e s) (base + f)) (afterPadding s e (walkFrom mode n s base)))
+        turn-holder : x ≡ run w b (andThen (walk mode (n - 1) (part f e s) (base + f)) (afterPadding s base e (walkFrom mode n s base)))
         unfolding run
         turn-holder =
             let above : suc (n - 1) ≡ n = omega arith in
@@ -68,9 +68,9 @@ module _ (mode : Mode) where
         turn-open-stop ended = sym (turn-holder ∙ ended _)
 
         module _ {k inner : ℕ} {d : Seek} (children : d ≡ run w b (walk mode k (part f e s) inner)) (below : k ≡ n - 1) (ib : inner ≡ base + f) where
-          turn-open : x ≡ run w d (afterPadding s e (walkFrom mode n s base))
+          turn-open : x ≡ run w d (afterPadding s base e (walkFrom mode n s base))
           turn-open =
-              let after = afterPadding s e (walkFrom mode n s base) in
+              let after = afterPadding s base e (walkFrom mode n s base) in
               let inside = walk mode (n - 1) (part f e s) (base + f) in
               let same : d ≡ run w b inside = rw (below, ib) at children in
               turn-holder
@@ -82,8 +82,8 @@ module _ (mode : Mode) where
           turn-children ended = sym (turn-open ∙ ended _)
 
           pub turn-open-next : {next : ℕ} → next ≡ aligned e → zeros s e (next - e) ≡ true → Going n s base w x d next
-          turn-open-next up z = record { same = rw up (rw (padding-zero s e (walkFrom mode n s base) (rw up at z)) at turn-open) }
+          turn-open-next up z = record { same = rw up (rw (padding-zero s base e (walkFrom mode n s base) (rw up at z)) at turn-open) }
 
           pub turn-open-207 : {next : ℕ} {r : Seek} → next ≡ aligned e → zeros s e (next - e) ≡ false → r ≡ halted 207 d → r ≡ x
           unfolding run
-          turn-open-207 up z p = p ∙ sym (rw (padding-207 s e (walkFrom mode n s base) (rw up at z)) at turn-open)
+          turn-open-207 up z p = p ∙ sym (rw (padding-207 s base e (walkFrom mode n s base) (rw up at z)) at turn-open)

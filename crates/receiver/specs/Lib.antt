@@ -1,0 +1,5 @@
+pub mod Place
+pub mod Received
+pub mod Receiver
+pub mod Steps
+pub mod Tally
