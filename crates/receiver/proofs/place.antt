@@ -1,4 +1,5 @@
--- Laws of src/place.rt: where a receiver is, and where that is in the walk of the file.
+-- Laws of src/place.rt. Cases: what comes next, test by test. Padded: padding, one test a byte. Standing: where a receiver stands in the walk of the
+-- file, inside which streams. Entering: a section entered there.
 pub mod Cases
 pub mod Entering
 pub mod Padded

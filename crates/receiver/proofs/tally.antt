@@ -1,2 +1,2 @@
--- Laws of src/tally.rt: the sections that were met.
+-- Laws of src/tally.rt. Counts: the sections that were met are those of the walk, their number and the one wanted.
 pub mod Counts

@@ -1,26 +1,25 @@
 -- Where a receiver stands in the walk of the file: the streams that are open, what the walk still meets from there on, and what comes next.
-use Prim.Native.Nat.{ℕ, zero, suc, _+_, _-_, _%_, _≤_, _<_, _^_}
+use Prim.Native.Nat.{ℕ, suc, _+_, _-_, _%_, _≤_, _<_, _^_}
 use mathlib.Core.Path.{_≡_, refl, sym, ap, ap₂, subst, _∙_}
 use mathlib.Core.Bool.{Bool, true, false, cond}
 use mathlib.Core.List.{List, [], _∷_}
 use mathlib.Core.Logic.{_⊎_, inl, inr}
-use mathlib.Core.Option.{Option, none, some}
+use mathlib.Core.Option.{some}
 use native.Mathlib.Nat.{mod-eq-of-lt}
 use native.Mathlib.Omega.{arith}
-use borrow.Author.Tests.{lt-ltb, le-ltb, ltb-true, ltb-false, le-leb, eq-eqb, ne-eqb, eqb-true, eqb-false}
+use borrow.Author.Tests.{lt-ltb, ltb-true, ltb-false, le-leb, eqb-true, eqb-false}
 use lib.Dec.{eqb, ltb}
 use lib.ListN.{length, getD}
-use Rattle.sections.specs.Header.{headAt, headIn}
+use Rattle.sections.specs.Header.{headAt}
 use Rattle.sections.specs.Partial.{bytesFor, needed}
-use Rattle.sections.specs.Walk.{Trace, done, fault, section, andThen, aligned, afterPadding}
+use Rattle.sections.specs.Walk.{Trace, done, fault, andThen, aligned, afterPadding}
 use Rattle.sections.specs.declared.header.Mode.{Mode}
 use Rattle.sections.specs.declared.header.Head.the-variants.{Fault}
 use Rattle.sections.proofs.partial.Views.{says-201, needed-three}
 use Rattle.sections.proofs.walk.Starts.{walkFrom, walk-end, walk-fault}
-use Rattle.receiver.specs.Place.{placed, withPhase, started, arrived, padding, entered}
+use Rattle.receiver.specs.Place.{placed, started, arrived, padding}
 use Rattle.receiver.specs.Received.{foundAfter, foundFault}
 use Rattle.receiver.specs.Tally.{wrapped}
-use Rattle.receiver.specs.declared.place.Phase.{Phase}
 use Rattle.receiver.specs.declared.place.Phase.the-variants.{Header, Body, Padding, Complete, Refused}
 use Rattle.receiver.specs.declared.place.Place.{Place}
 use Rattle.receiver.proofs.place.Padded.{InFile, padded, padded-zero, after-padded, padding-end, next-start}

@@ -11,9 +11,9 @@ use borrow.Author.Tests.{lt-ltb, le-ltb, ltb-true, ltb-false, eq-eqb, ne-eqb, eq
 use lib.Dec.{eqb, leb, ltb}
 use lib.ListN.{length, getElem?, take, drop, replicate, length-append, take-append-drop, List·getD-append}
 use lib.Seq.{length-take-le, take-append-le, take-append-seam, take-length}
-use Rattle.common.specs.Answers.{Answer, refused}
+use Rattle.common.specs.Answers.{refused}
 use Rattle.common.specs.Refusals.{unlessRefused}
-use Rattle.sections.specs.Header.{grown, headerLength, ownFields, typeAt}
+use Rattle.sections.specs.Header.{grown, headerLength, typeAt}
 use Rattle.sections.specs.Partial.{bytesFor, contentsFields}
 use Rattle.sections.specs.Search.{Section, sections, firstFault, ofType, partAnswer, searchOf}
 use Rattle.sections.specs.Walk.{Trace, done, fault, section, walk, streamLimit, streamWalk}
@@ -31,7 +31,7 @@ use Rattle.receiver.proofs.receiver.Finishing as F
 use Rattle.receiver.proofs.receiver.Late.{Behind, behind-walk}
 use Rattle.receiver.proofs.receiver.OneByte.{Reads}
 use Rattle.receiver.proofs.receiver.Portions as R
-use Rattle.receiver.proofs.receiver.Portions.{Comes, comes, fed-append, file-length, file-bytes, found-more, found-first, none-found, reads-file}
+use Rattle.receiver.proofs.receiver.Portions.{Comes, comes, fed-append, nothing, found-more, found-first, none-found, reads-file}
 
 -- ---- a receiver's phase has the fault that was found
 
@@ -55,11 +55,11 @@ not-refused Exceeded f z = refl
 not-refused (Refused n) f z = let q = number-refused n 208 (f (noTally 0)) in absurd (omega arith)
 
 fault-phase : (ph : Phase) (n : ℕ) → phaseFault ph ≡ some n → ph ≡ Refused n
-fault-phase (Header have) n p = let z : _≡_ {A = ℕ} 0 1 = cc in absurd (omega arith)
-fault-phase (Body m) n p = let z : _≡_ {A = ℕ} 0 1 = cc in absurd (omega arith)
-fault-phase (Padding m) n p = let z : _≡_ {A = ℕ} 0 1 = cc in absurd (omega arith)
-fault-phase Complete n p = let z : _≡_ {A = ℕ} 0 1 = cc in absurd (omega arith)
-fault-phase Exceeded n p = let z : _≡_ {A = ℕ} 0 1 = cc in absurd (omega arith)
+fault-phase (Header have) n p = absurd (nothing p)
+fault-phase (Body m) n p = absurd (nothing p)
+fault-phase (Padding m) n p = absurd (nothing p)
+fault-phase Complete n p = absurd (nothing p)
+fault-phase Exceeded n p = absurd (nothing p)
 fault-phase (Refused m) n p = let z : m ≡ n = cc in ap Refused z
 
 -- a fault that a receiver has stays in it, whatever comes, and is what the finish answers
@@ -216,7 +216,7 @@ module _ (mode : Mode) (file : List ℕ) where
 
       go : (b : Bool) → leb (foundAfter mode file n start e) (length file) ≡ b → cond b (some n) none ≡ some n → foundAfter mode file n start e ≤ length file
       go true p q = leb-true (foundAfter mode file n start e) (length file) p
-      go false p q = let z : _≡_ {A = ℕ} 0 1 = cc in absurd (omega arith)
+      go false p q = absurd (nothing q)
 
   -- its number is one of 01's
   behind-number : (low n start e : ℕ) {x : Trace} → Behind low x → EndsIn n start e x → (201 ≤ n) × (n ≤ 207)
@@ -236,12 +236,12 @@ module _ (mode : Mode) (file : List ℕ) where
 
   found-ends : (came n : ℕ) (x : Trace) → foundFault mode file came x ≡ some n → (start : ℕ) × (e : ℕ) × EndsIn n start e x
   unfolding foundFault
-  found-ends came n done p = let z : _≡_ {A = ℕ} 0 1 = cc in absurd (omega arith)
+  found-ends came n done p = absurd (nothing p)
   found-ends came n (fault m start e) p = go (leb (foundAfter mode file m start e) came) p
     where
       go : (b : Bool) → cond b (some m) none ≡ some n → (s : ℕ) × (f : ℕ) × EndsIn n s f (fault m start e)
       go true q = let z : m ≡ n = cc in (start, e, subst (λ (k : ℕ). EndsIn k start e (fault m start e)) z here)
-      go false q = let z : _≡_ {A = ℕ} 0 1 = cc in absurd (omega arith)
+      go false q = absurd (nothing q)
   found-ends came n (section t first end x) p = let r = found-ends came n x p in (r .0, r .1, later (r .2))
 
 -- so a fault that was found is not 0, the number of none

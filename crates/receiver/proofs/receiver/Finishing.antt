@@ -1,19 +1,18 @@
 -- What a receiver answers that stands in the walk of the file, where so many bytes came.
-use Prim.Native.Nat.{ℕ, zero, suc, _+_, _-_, _≤_, _<_, _^_}
-use mathlib.Core.Path.{_≡_, refl, sym, ap, subst, _∙_}
+use Prim.Native.Nat.{ℕ, zero, suc, _+_, _-_, _≤_, _<_}
+use mathlib.Core.Path.{_≡_, refl, ap, _∙_}
 use mathlib.Core.Bool.{Bool, true, false, cond}
 use mathlib.Core.List.{List, [], _∷_}
-use mathlib.Core.Option.{Option, none, some}
+use mathlib.Core.Option.{none, some}
 use native.Mathlib.Omega.{arith}
-use borrow.Author.Tests.{lt-leb, eq-eqb, ne-eqb}
-use lib.Dec.{eqb, leb}
-use lib.ListN.{length, getD, getElem?}
-use Rattle.common.specs.Answers.{Answer, refused}
-use Rattle.common.specs.Refusals.{unlessRefused}
+use borrow.Author.Tests.{lt-leb}
+use lib.Dec.{eqb}
+use lib.ListN.{length, getD}
+use Rattle.common.specs.Answers.{refused}
 use Rattle.sections.specs.Header.{headIn, headAt}
 use Rattle.sections.specs.Partial.{needed, bytesForHead}
-use Rattle.sections.specs.Search.{sections, ofType, firstFault}
-use Rattle.sections.specs.Walk.{Trace, done, fault, section, andThen, aligned, afterPadding, part, walk}
+use Rattle.sections.specs.Search.{sections, firstFault}
+use Rattle.sections.specs.Walk.{Trace, done, fault, section, andThen, aligned, afterPadding, part}
 use Rattle.sections.specs.declared.header.Head.{Head}
 use Rattle.sections.specs.declared.header.Head.the-variants.{Fault, Closed, Open}
 use Rattle.sections.specs.declared.header.Mode.{Mode}
@@ -22,18 +21,18 @@ use Rattle.sections.proofs.header.Extent.{closed-within, open-within}
 use Rattle.sections.proofs.header.Sizes.{header-range}
 use Rattle.sections.proofs.partial.Agree.{needed-left}
 use Rattle.sections.proofs.walk.Starts.{walkFrom, walk-from-start, walk-fault, walk-closed, walk-205, walk-open}
-use Rattle.receiver.specs.Received.{foundAfter, foundFault, faultNumber, countedAnswer}
-use Rattle.receiver.specs.Receiver.{noTally, tallyAnswer, finishAt, finishOf, foundIn, faultOf}
+use Rattle.receiver.specs.Received.{foundAfter, foundFault}
+use Rattle.receiver.specs.Receiver.{noTally, finishAt, foundIn}
 use Rattle.receiver.specs.declared.place.Phase.{Phase}
-use Rattle.receiver.specs.declared.place.Phase.the-variants.{Header, Body, Padding, Complete, Refused}
+use Rattle.receiver.specs.declared.place.Phase.the-variants.{Complete, Refused}
 use Rattle.receiver.specs.declared.receiver.Receiver.{Receiver}
 use Rattle.receiver.specs.declared.tally.Tally.{Tally}
 use Rattle.receiver.proofs.receiver.Heads.{needed-by, as-head, due, due-205}
 use Rattle.receiver.proofs.receiver.Late.{Behind, behind-then, behind-less, behind-padding, behind-from, late}
 use Rattle.receiver.proofs.place.Padded.{InFile, padded}
-use Rattle.receiver.proofs.receiver.OneByte.{Same, Reads}
-use Rattle.receiver.proofs.place.Standing.{Frame, unwind, rest, Chained, Stands, At, in-found, in-whole, in-header, in-body, in-padding}
-use Rattle.receiver.proofs.tally.Counts.{tallied, tallied-none, tally-answer}
+use Rattle.receiver.proofs.receiver.OneByte.{Reads}
+use Rattle.receiver.proofs.place.Standing.{Frame, unwind, Chained, At, in-found, in-whole, in-header, in-body, in-padding}
+use Rattle.receiver.proofs.tally.Counts.{tallied, tallied-none}
 
 module _ (mode : Mode) (file : List ℕ) where
   -- a fault that is found later
@@ -126,12 +125,6 @@ module _ (mode : Mode) (file : List ℕ) where
             (late mode file came (base + g) inner (omega arith) (behind-less (base + g + 0) (base + g) inner b (behind-from mode m (part g e s) (base + g) 0)))
             (late-padding e (omega arith)))
 
--- the answer, by what the walk of the file comes to and how many bytes came
-abbrev pub answered : Mode → (file : List ℕ) → (want instance came : ℕ) → Trace → Answer
-answered mode file want instance came all =
-    unlessRefused refused (foundFault mode file came all)
-    (cond (eqb came (length file)) (countedAnswer (length (sections all)) (getElem? (ofType want (sections all)) instance)) (refused 208))
-
 module _ (mode : Mode) (file : List ℕ) (want instance : ℕ) (all : Trace) (i : ℕ) (r : Receiver) (reads : Reads mode file want (noTally instance) all i r) where
   -- where bytes are still to come, no fault is found
   pub data Answers : Type 0 where
@@ -187,25 +180,3 @@ module _ (mode : Mode) (file : List ℕ) (want instance : ℕ) (all : Trace) (i 
           (late-padded mode file i n i (base + length s) (walkFrom mode (7 - length fr) s base k) (omega arith)
           (late mode file i (base + k) (walkFrom mode (7 - length fr) s base k) (omega arith) (behind-from mode (7 - length fr) s base k)))
           (unwound s base fr (st .chained) (omega arith)))
-
-  -- the finish
-  pub finishes : finishOf r ≡ answered mode file want instance i all
-  unfolding finishOf
-  finishes = go answers
-    where
-      go : Answers → finishAt (r .place .phase) (r .tally) ≡ answered mode file want instance i all
-      go (refuses p f) = rw f (ap (λ (q : Phase). finishAt q (r .tally)) p)
-      go (completes p e f first tally) =
-          rw (f, eq-eqb i (length file) e)
-          (ap (λ (q : Phase). finishAt q (r .tally)) p ∙ ap tallyAnswer (sym tally) ∙ tally-answer want instance (sections all))
-      go (waits f z more l) = rw (l, ne-eqb i (length file) (λ e. omega arith)) (f (r .tally))
-
-  -- the fault that was found so far
-  pub faults : faultOf r ≡ faultNumber (foundFault mode file i all)
-  unfolding faultOf
-  faults = go answers
-    where
-      go : Answers → foundIn (r .place .phase) ≡ faultNumber (foundFault mode file i all)
-      go (refuses p f) = rw f (ap foundIn p)
-      go (completes p e f first tally) = rw f (ap foundIn p)
-      go (waits f z more l) = rw l z

@@ -1,15 +1,14 @@
 -- The header at the place where a receiver stands: what its bytes in the window say, the stream and the file say too; and the bytes after which its
 -- faults are found.
-use Prim.Native.Nat.{ℕ, _+_, _-_, _≤_, _<_}
-use mathlib.Core.Path.{_≡_, refl, sym, ap, subst, _∙_}
+use Prim.Native.Nat.{ℕ, _+_, _-_, _≤_}
+use mathlib.Core.Path.{_≡_, sym, ap, _∙_}
 use mathlib.Core.List.{List}
 use native.Mathlib.Nat.{zero-add}
 use native.Mathlib.Omega.{arith}
 use borrow.Author.Tests.{ne-eqb}
-use lib.Dec.{eqb}
 use lib.ListN.{length, getD, drop}
 use lib.Seq.{getD-drop}
-use Rattle.sections.specs.Header.{headerLength, typeAt, ownFields, headIn, headAt}
+use Rattle.sections.specs.Header.{typeAt, headIn, headAt}
 use Rattle.sections.specs.Partial.{bytesFor, bytesForHead, needed}
 use Rattle.sections.specs.declared.header.Head.{Head}
 use Rattle.sections.specs.declared.header.Head.the-variants.{Fault, Closed, Open}

@@ -8,7 +8,7 @@ use native.Mathlib.Nat.{add-zero}
 use native.Mathlib.Omega.{arith}
 use borrow.Author.Tests.{lt-leb, ne-eqb}
 use lib.Dec.{eqb, ltb}
-use lib.ListN.{length, getD}
+use lib.ListN.{length}
 use Rattle.sections.specs.Header.{headAt}
 use Rattle.sections.specs.Partial.{bytesFor}
 use Rattle.sections.specs.Walk.{Trace, done, fault, section, andThen, aligned, zeros, firstNonzero, part, afterPadding, meet, siblings, walk}
@@ -17,6 +17,7 @@ use Rattle.sections.specs.declared.header.Head.the-variants.{Fault, Closed, Ope
 use Rattle.sections.specs.declared.header.Mode.{Mode}
 use Rattle.sections.proofs.header.Cases.{fault-range}
 use Rattle.sections.proofs.header.Extent.{closed-within, open-within}
+use Rattle.sections.proofs.walk.Padding.{first-nonzero}
 use Rattle.sections.proofs.walk.Starts.{walkFrom}
 use Rattle.receiver.specs.Received.{foundAfter, foundFault}
 
@@ -37,22 +38,13 @@ behind-less low low′ done h p = tt
 behind-less low low′ (fault n start e) h p = let q = p .0 in (omega arith, p .1, p .2, p .3)
 behind-less low low′ (section t f e rest) h p = behind-less low low′ rest h p
 
-nonzero-least : (s : List ℕ) (at n : ℕ) → at ≤ firstNonzero s at n
-unfolding firstNonzero
-nonzero-least s at zero = omega arith
-nonzero-least s at (suc n) = go (eqb (getD s at 0) 0) (nonzero-least s (at + 1) n)
-  where
-    go : (b : Bool) → at + 1 ≤ firstNonzero s (at + 1) n → at ≤ cond b (firstNonzero s (at + 1) n) at
-    go true h = omega arith
-    go false h = omega arith
-
 pub behind-padding : (low : ℕ) (s : List ℕ) (base e : ℕ) (rest : ℕ → Trace) → low ≤ base + e → Behind low (rest (aligned e)) → Behind low (afterPadding s base e rest)
 unfolding afterPadding
-behind-padding low s base e rest h p = go (zeros s e (aligned e - e))
+behind-padding low s base e rest h p = go (zeros s e (aligned e - e)) refl
   where
-    go : (b : Bool) → Behind low (cond b (rest (aligned e)) (fault 207 (base + firstNonzero s e (aligned e - e)) (base + length s)))
-    go true = p
-    go false = let n = nonzero-least s e (aligned e - e) in (omega arith, λ z. omega arith, omega arith, omega arith)
+    go : (b : Bool) → zeros s e (aligned e - e) ≡ b → Behind low (cond b (rest (aligned e)) (fault 207 (base + firstNonzero s e (aligned e - e)) (base + length s)))
+    go true z = p
+    go false z = let n = first-nonzero s e (aligned e - e) z .0 in (omega arith, λ z. omega arith, omega arith, omega arith)
 
 module _ (mode : Mode) where
   module _ (n : ℕ) (inner : List ℕ → ℕ → Trace) (below : (l : List ℕ) (b : ℕ) → Behind b (inner l b)) (s : List ℕ) (base : ℕ) where

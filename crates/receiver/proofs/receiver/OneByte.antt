@@ -1,19 +1,18 @@
 -- One byte more: where a receiver stands in the walk of the file, it stands there with the next byte too.
 use Prim.Native.Nat.{ℕ, suc, _+_, _-_, _≤_, _<_, _^_}
-use mathlib.Core.Path.{_≡_, refl, sym, ap, ap₂, subst, _∙_}
+use mathlib.Core.Path.{_≡_, refl, sym, ap, subst, _∙_}
 use mathlib.Core.Bool.{Bool, true, false, cond}
 use mathlib.Core.List.{List, [], _∷_}
 use mathlib.Core.Logic.{_⊎_, inl, inr}
-use mathlib.Core.Option.{Option, none, some}
 use native.Mathlib.Nat.{mod-eq-of-lt, zero-add}
 use native.Mathlib.Omega.{arith}
-use borrow.Author.Tests.{lt-ltb, le-ltb, ltb-true, ltb-false, le-leb, lt-leb, leb-true, leb-false, eqb-true, eqb-false, eq-eqb, ne-eqb}
+use borrow.Author.Tests.{lt-ltb, ltb-true, ltb-false, leb-true, leb-false, eqb-true, eqb-false}
 use lib.Dec.{eqb, leb, ltb}
 use lib.ListN.{length, drop, getD, set, replicate, length-drop, length-set, length-replicate}
 use lib.Seq.{getD-set-same, getD-set-other, length-take-le}
 use Rattle.sections.specs.Header.{headIn, headAt}
 use Rattle.sections.specs.Partial.{bytesForHead, needed, decided, partialOf}
-use Rattle.sections.specs.Search.{Section, sections, firstFault}
+use Rattle.sections.specs.Search.{sections, firstFault}
 use Rattle.sections.specs.Walk.{Trace, done, fault, section, andThen, afterPadding, part, walk}
 use Rattle.sections.specs.declared.header.Head.{Head}
 use Rattle.sections.specs.declared.header.Head.the-variants.{Fault, Closed, Open}
@@ -27,12 +26,12 @@ use Rattle.sections.proofs.partial.Agree.{moved as later, needed-left}
 use Rattle.sections.proofs.partial.Views.{part-is, needed-most}
 use Rattle.sections.proofs.walk.Parts.{part-in}
 use Rattle.sections.proofs.walk.Starts.{walkFrom, walk-from-start, walk-fault, walk-closed, walk-205, walk-open}
-use Rattle.receiver.specs.Place.{placed, withPhase, arrived, entered}
+use Rattle.receiver.specs.Place.{withPhase, arrived, entered}
 use Rattle.receiver.specs.Received.{foundAfter, foundFault}
-use Rattle.receiver.specs.Receiver.{receiver, moved, atPlace, waiting, refused, met, looked, passed, paddingStep, stepped}
+use Rattle.receiver.specs.Receiver.{moved, atPlace, waiting, refused, met, looked, passed, paddingStep, stepped}
 use Rattle.receiver.specs.Tally.{wrapped, visited}
 use Rattle.receiver.specs.declared.place.Phase.{Phase}
-use Rattle.receiver.specs.declared.place.Phase.the-variants.{Header, Body, Padding, Complete, Refused}
+use Rattle.receiver.specs.declared.place.Phase.the-variants.{Header, Body, Padding, Refused}
 use Rattle.receiver.specs.declared.place.Place.{Place}
 use Rattle.receiver.specs.declared.receiver.Receiver.{Receiver}
 use Rattle.receiver.specs.declared.tally.Tally.{Tally}

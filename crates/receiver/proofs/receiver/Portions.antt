@@ -1,5 +1,5 @@
 -- The receiver of a file, portion after portion: what it answers is what the definition says of the bytes that came.
-use Prim.Native.Nat.{ℕ, suc, _+_, _-_, _≤_, _<_, _^_}
+use Prim.Native.Nat.{ℕ, suc, _+_, _-_, _≤_, _<_}
 use mathlib.Core.Path.{_≡_, refl, sym, ap, subst, _∙_}
 use mathlib.Core.Bool.{Bool, true, false, cond}
 use mathlib.Core.List.{List, [], _∷_, _++_}
@@ -7,7 +7,7 @@ use mathlib.Core.Option.{Option, none, some}
 use native.Mathlib.Nat.{zero-add, add-zero}
 use native.Mathlib.Omega.{arith}
 use borrow.Author.Tests.{le-ltb, lt-ltb, ltb-true, ltb-false, le-leb, leb-true, eq-eqb, ne-eqb}
-use lib.Dec.{eqb, leb, ltb}
+use lib.Dec.{leb, ltb}
 use lib.ListN.{length, getD, take, drop, replicate, length-append, length-replicate, length-drop, take-append-drop, List·getD-append}
 use lib.Seq.{getD-take, length-take-le}
 use Rattle.common.specs.Answers.{refused}
@@ -25,11 +25,10 @@ use Rattle.receiver.specs.declared.place.Phase.the-variants.{Complete, E
 use Rattle.receiver.specs.declared.receiver.Receiver.{Receiver}
 use Rattle.receiver.proofs.receiver.Fed.{fed-refused, fed-complete}
 use Rattle.receiver.proofs.receiver.Finishing as F
-use Rattle.receiver.proofs.place.Padded.{InFile}
-use Rattle.receiver.proofs.receiver.OneByte.{Same, Reads, byte-more}
+use Rattle.receiver.proofs.receiver.OneByte.{Reads, byte-more}
 use Rattle.receiver.proofs.receiver.Sound.{sound-fits, fits-sound, arrived-fits, stepped-fits}
 use Rattle.receiver.proofs.tally.Counts.{tallied, tally-answer}
-use Rattle.receiver.proofs.place.Standing.{Stands, unwind, rest, At, arrive}
+use Rattle.receiver.proofs.place.Standing.{Stands, unwind, rest, arrive}
 
 -- the limits of a stream are far below what a number holds
 limit-most : (mode : Mode) → streamLimit mode ≤ 67108864
@@ -167,6 +166,9 @@ module _ (total : ℕ) (came : List ℕ) where
 
 -- ---- faults of a walk, found or not
 
+pub nothing : {n : ℕ} → _≡_ {A = Option ℕ} none (some n) → ⊥
+nothing p = let z : _≡_ {A = ℕ} 0 1 = cc in omega arith
+
 module _ (mode : Mode) (file : List ℕ) where
   -- once found, it is found
   pub found-more : (i j n : ℕ) (x : Trace) → i ≤ j → foundFault mode file i x ≡ some n → foundFault mode file j x ≡ some n
@@ -176,7 +178,7 @@ module _ (mode : Mode) (file : List ℕ) where
     where
       go : (b : Bool) → leb (foundAfter mode file m start e) i ≡ b → cond b (some m) none ≡ some n → cond (leb (foundAfter mode file m start e) j) (some m) none ≡ some n
       go true l q = let k = leb-true (foundAfter mode file m start e) i l in rw (le-leb (foundAfter mode file m start e) j (omega arith)) q
-      go false l q = let z : _≡_ {A = ℕ} 0 1 = cc in absurd (omega arith)
+      go false l q = absurd (nothing q)
   found-more i j n (section t f e x) h p = found-more i j n x h p
 
   -- only what is at fault is found
@@ -187,13 +189,13 @@ module _ (mode : Mode) (file : List ℕ) where
     where
       go : (b : Bool) → cond b (some m) none ≡ some n → some m ≡ some n
       go true q = q
-      go false q = let z : _≡_ {A = ℕ} 0 1 = cc in absurd (omega arith)
+      go false q = absurd (nothing q)
   found-first i n (section t f e x) p = found-first i n x p
 
   pub none-found : (i : ℕ) (x : Trace) → firstFault x ≡ none → foundFault mode file i x ≡ none
   unfolding foundFault firstFault
   none-found i done p = refl
-  none-found i (fault m start e) p = let z : _≡_ {A = ℕ} 0 1 = cc in absurd (omega arith)
+  none-found i (fault m start e) p = absurd (nothing (sym p))
   none-found i (section t f e x) p = none-found i x p
 
 -- ---- the receiver, by the bytes that came

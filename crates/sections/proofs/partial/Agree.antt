@@ -1,8 +1,8 @@
 -- The bytes that a header needs decide it: where the first bytes of a section are those of another list, and as many as that one needs, the two
 -- say the same, and need as many.
-use Prim.Native.Nat.{ℕ, zero, suc, _+_, _%_, _*_, _≤_, _<_}
+use Prim.Native.Nat.{ℕ, zero, suc, _+_, _%_, _≤_, _<_}
 use mathlib.Core.Path.{_≡_, refl, sym, ap, _∙_}
-use mathlib.Core.Bool.{Bool, true, false, cond, not, _&&_, _||_}
+use mathlib.Core.Bool.{Bool, true, false, cond, not, _&&_}
 use mathlib.Core.List.{List}
 use mathlib.Core.Option.{some}
 use native.Mathlib.Omega.{arith}
@@ -14,7 +14,7 @@ use lib.Seq.{getD-drop}
 use Rattle.common.specs.Refusals.{firstRefusal}
 use Rattle.numbers.specs.LittleEndian.{le}
 use Rattle.sections.specs.Types.{compression, typeInfo}
-use Rattle.sections.specs.Header.{sizeField, isLong, headerLength, sizeAt, typeAt, unpackedLength, compressionKind, dataOffset, attributes}
+use Rattle.sections.specs.Header.{sizeField, isLong, headerLength, sizeAt, typeAt, compressionKind, attributes}
 use Rattle.sections.specs.Header.{grown, isHolder, ownFields, contentsAt, packed, wrongContents, sizeFaults, sectionOf, headIn, holderOf}
 use Rattle.sections.specs.Partial.{contentsFields, bytesFor, bytesForHead, needed, fieldsFor}
 use Rattle.sections.specs.declared.header.Mode.{Mode}
@@ -24,7 +24,7 @@ use Rattle.sections.proofs.types.Rows.{holder-guid}
 use Rattle.sections.proofs.header.Decided.{own-fields, own-least}
 use Rattle.sections.proofs.header.Sizes.{Fits, header-range, short-size, long-header, long-size}
 use Rattle.sections.proofs.header.Tests.{in-refused, in-leaf, in-holder}
-use Rattle.sections.proofs.partial.Views.{Says, says-201, says-201-long, Past, refuses, is-leaf, is-holder, past, needed-header, needed-three, needed-most}
+use Rattle.sections.proofs.partial.Views.{says-201, says-201-long, Past, refuses, is-leaf, is-holder, past, needed-header, needed-three, needed-most}
 
 -- what stands so many bytes later
 abbrev pub moved : ℕ → Head → Head

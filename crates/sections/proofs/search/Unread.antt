@@ -12,7 +12,7 @@ use lib.Dec.{ltb}
 use lib.ListN.{length, getD, length-take, length-drop}
 use Rattle.sections.specs.Types.{typeInfo}
 use Rattle.sections.specs.Header.{headerLength, sizeAt, typeAt, leastSize, isHolder, contentsAt, packed, headAt}
-use Rattle.sections.specs.Walk.{Trace, done, aligned, zeros, part, afterPadding, meet, siblings, walk, streamWalk}
+use Rattle.sections.specs.Walk.{Trace, done, aligned, part, afterPadding, meet, siblings, walk, streamWalk}
 use Rattle.sections.specs.Search.{searchOf, firstAnswer, searchFirstOf}
 use Rattle.sections.specs.declared.header.Head.{Head}
 use Rattle.sections.specs.declared.header.Head.the-variants.{Fault, Closed, Open}

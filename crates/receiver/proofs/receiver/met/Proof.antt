@@ -1,5 +1,4 @@
 -- `receiver::receiver::met` meets its contract: the section is tallied, and entered.
-use mathlib.Core.Path.{_∙_}
 use borrow.Author.Needs.{needs}
 use Rattle.receiver.proofs.receiver.Cases.{tallied-at}
 use Rattle.receiver.proofs.receiver.met.Statement.{statement}

@@ -1,6 +1,6 @@
 -- `partial_holder` meets its contract: by what the whole header says, once the bytes that it depends on came.
 use Prim.Native.Nat.{ℕ, _+_}
-use mathlib.Core.Path.{sym, ap, _∙_}
+use mathlib.Core.Path.{ap}
 use native.Mathlib.Omega.{arith}
 use borrow.Author.Needs.{needs}
 use Rattle.sections.proofs.partial.Views.{contents-most, own-most, waits-204, finds-204, waits-closed, finds-closed, waits-open, finds-open}
