@@ -15,7 +15,7 @@ WORKING = 4096      # bytes of a working volume
 ROOM = 512          # bytes of a header's room and of a section buffer
 LISTING = 1024      # bytes of a listing's room
 LIST = 96           # words of an erase list at most
-BLOCK = 65536       # bytes that are looked at together; the pattern repeats after as many
+BLOCK = 65536       # bytes after which a pattern repeats
 PRIME = 4294967291
 ERASED = (0xFF00, 0)
 PATTERN = (0x1234, 1801)
@@ -74,34 +74,19 @@ def state_fields(state):
     return [state.length, state.attributes, state.edition, state.first_protected, state.entries, state.base, state.guid.hex(), map_words]
 
 
-def blocks(data):
-    return [(at, data[at:at + BLOCK]) for at in range(0, len(data), BLOCK)]
-
-
 def checksum(data):
     total = 0
-    for _, block in blocks(data):
-        if block == block[:1] * len(block):     # one byte value: a geometric series
-            power = pow(31, len(block), PRIME)
-            total = (total * power + block[0] * (power - 1) * pow(30, -1, PRIME)) % PRIME
-        else:
-            for byte in block:
-                total = (total * 31 + byte) % PRIME
+    for byte in data:
+        total = (total * 31 + byte) % PRIME
     return total
 
 
 def change_fields(before, after):
-    count, first, last = 0, None, None
-    for (at, old), (_, new) in zip(blocks(before), blocks(after)):
-        if old != new:
-            n = len(new)
-            differ = (int.from_bytes(old, "big") ^ int.from_bytes(new, "big")).to_bytes(n, "big")
-            count += n - differ.count(0)
-            first = at + n - len(differ.lstrip(b"\0")) if first is None else first
-            last = at + len(differ.rstrip(b"\0")) - 1
-    if not count:
+    if before == after:
         return [0, checksum(after)]
-    return [count, first, last, shown(after[first:last + 1]), checksum(after)]
+    places = [i for i, (old, new) in enumerate(zip(before, after)) if old != new]
+    first, last = places[0], places[-1]
+    return [len(places), first, last, shown(after[first:last + 1]), checksum(after)]
 
 
 def answer_fields(no, *values):
@@ -111,8 +96,8 @@ def answer_fields(no, *values):
 
 # The cases.
 
-def opening(name, own, lent, base=0, pattern=ERASED, working=WORKING):
-    data = prepared(own, pattern, working)[:lent]
+def opening(name, own, lent, base=0, pattern=ERASED):
+    data = prepared(own, pattern, WORKING)[:lent]
     no, state = volume.open_volume(data, base)
     script = items(name.encode(), number(0), number(lent), number(base), own, pattern_item(pattern))
     return Case(name, script, [line(name, "open", no, *state_fields(state))], [no])
@@ -141,8 +126,8 @@ def pi_header_writing(name, room, guid, length, attributes, offset, map_words, p
                    lambda part: volume.write_pi_header(part, guid, length, attributes, offset, map_words), [words([offset], 2)])
 
 
-def ext_entry(name, own, lent, n, pattern=ERASED, working=WORKING):
-    answer = volume.ext_entry(prepared(own, pattern, working)[:lent], n)
+def ext_entry(name, own, lent, n, pattern=ERASED):
+    answer = volume.ext_entry(prepared(own, pattern, WORKING)[:lent], n)
     script = items(name.encode(), number(8), number(lent), number(n), own, pattern_item(pattern))
     return Case(name, script, [line(name, "ext entry", n, *answer_fields(*answer))], [answer[0]])
 
@@ -259,8 +244,8 @@ def first_searching(name, stream, kind, mode=FRAMEWORK):
     return Case(name, script, [line(name, word, kind, *part_fields(stream, no, first, end))], [no])
 
 
-def appending(name, room, used, kind, body, stream=b"", instance=0, pattern=PATTERN, buffer=ROOM, mode=FRAMEWORK):
-    before = prepared(stream, pattern, buffer)
+def appending(name, room, used, kind, body, stream=b"", instance=0, pattern=PATTERN, mode=FRAMEWORK):
+    before = prepared(stream, pattern, ROOM)
     after = bytearray(before)
     part = after[:room]
     no, count = sections.append(part, used, kind, body, mode)
@@ -268,8 +253,6 @@ def appending(name, room, used, kind, body, stream=b"", instance=0, pattern=PATT
     shown_stream = after[:count if no == 0 else used]
     fields = answer_fields(no, count) + change_fields(before, after)
     word, more = in_mode("append", mode)
-    if buffer != ROOM:
-        more = [number(mode), number(buffer)]
     script = items(name.encode(), number(5), number(room), number(used), bytes([kind]), body,
                    stream, pattern_item(pattern), number(instance), *more)
     fields += search_fields(bytes(shown_stream), kind, instance, mode)

@@ -13,19 +13,21 @@ use Rattle.common.specs.Answers.{refused, success}
 use Rattle.common.specs.Lists.{edit}
 use Rattle.common.specs.Refusals.{firstRefusal, row}
 use Rattle.common.proofs.Bits.{bit}
+use Rattle.numbers.specs.LittleEndian.{le}
 use Rattle.volume.specs.Attributes.{flag, readStatus, writeStatus, lockStatus, readLockStatus, writeLockStatus, stickyWrite, memoryMapped, erasePolarity}
 use Rattle.volume.specs.BlockMap.{blocks}
 use Rattle.volume.specs.State.{mapOf, unlawful}
 use Rattle.volume.specs.declared.state.State.{State}
 use Rattle.block_service.specs.Access.{countMoved, writtenByte, erasedByte, changedByte, writeChange}
 use Rattle.block_service.specs.Blocks.{place, HasLength, startOf, consecutiveBlocks, inBlock}
-use Rattle.block_service.specs.Erase.{endOfList, goodList, names, reaches, eraseChange}
+use Rattle.block_service.specs.Erase.{endOfList, goodList, names, reaches, eraseChange, listWords}
 use Rattle.block_service.specs.Service.{Call, getAttributes, getPhysicalAddress, setAttributes, getBlockSize, read, write, eraseBlocks, protectBlocks}
 use Rattle.block_service.specs.Service.{lentRefusals, refusals, moveAnswer, withAttributes, withProtected, result, bufferOf, step}
 use Rattle.settings.specs.Settings.{statusBits, changesFixed, changesLocked, lacksCapability}
 use Rattle.block_service.specs.declared.blocks.Place.the-variants.{At}
 use Rattle.block_service.proofs.access.Moves as Moves
 use Rattle.block_service.proofs.blocks.Places as Places
+use Rattle.block_service.proofs.erase.ByteLists as ByteLists
 use Rattle.block_service.proofs.erase.Lists as Lists
 use Rattle.block_service.proofs.blocks.Runs as Runs
 use Rattle.settings.proofs.Rules as Rules
@@ -331,6 +333,18 @@ named-twice = Erasing.named-twice
 pub empty-list : (st : State) (v rest : List ℕ) → unlawful st ≡ false → st .length ≤ length v → flag (st .attributes) writeStatus ≡ true
     → step st v (eraseBlocks (endOfList ∷ rest)) ≡ result (success []) st v []
 empty-list = Erasing.empty-list
+
+-- an erase list that comes as bytes (02, m): "eight to a word", the number of its words
+pub byte-list-length : (s : List ℕ) → length (listWords s) ≡ length s / 8
+byte-list-length = ByteLists.word-number
+
+-- each of them: word i is the number in the eight bytes from byte 8 * i on
+pub byte-list-word : (s : List ℕ) (i : ℕ) → i < length s / 8 → getD (listWords s) i 0 ≡ le 8 s (8 * i)
+byte-list-word = ByteLists.byte-word
+
+-- "a part word at the end is ignored": the bytes behind the last whole word change nothing
+pub part-word-ignored : (s t : List ℕ) → length s % 8 ≡ 0 → length t < 8 → listWords (s ++ t) ≡ listWords s
+part-word-ignored = ByteLists.part-ignored
 
 -- ---- set settings, of a lawful state
 

@@ -1,1 +1,2 @@
+pub mod ByteLists
 pub mod Lists

@@ -1,9 +1,11 @@
 -- Erasing (document 01, "Erase"). The list is a list of 64-bit words: "pairs of first block and count, ended by 2^64 - 1 where a first
 -- block would stand. Words after that are ignored."
-use Prim.Native.Nat.{ℕ, _+_}
+use Prim.Native.Nat.{ℕ, zero, suc, _+_, _/_}
 use mathlib.Core.Bool.{Bool, false, not, cond, _&&_, _||_}
-use mathlib.Core.List.{List, [], _∷_}
+use mathlib.Core.List.{List, [], _∷_, _++_}
 use lib.Dec.{eqb, leb, ltb}
+use lib.ListN.{length}
+use Rattle.numbers.specs.LittleEndian.{le}
 use Rattle.block_service.specs.Access.{ByteChange, keep, erase}
 use Rattle.block_service.specs.Blocks.{blockAt}
 
@@ -38,3 +40,16 @@ reaches m (first ∷ count ∷ rest) =
 -- an erase of the blocks that the list names, in a volume with this block map
 unfoldable pub eraseChange : List ℕ → List ℕ → ℕ → ByteChange
 eraseChange map list i = cond (names list (blockAt map i)) erase keep
+
+-- k words of 64 bits, the first at byte `at`
+unfoldable pub longsAt : ℕ → List ℕ → ℕ → List ℕ
+longsAt zero s at = []
+longsAt (suc k) s at = le 8 s at ∷ longsAt k s (at + 8)
+
+-- an erase list that comes as bytes: "eight to a word; a part word at the end is ignored" (document 02, m)
+unfoldable pub listWords : List ℕ → List ℕ
+listWords s = longsAt (length s / 8) s 0
+
+-- private to the code's contracts: an erase list of which the first words come as words and those after them as bytes
+unfoldable pub wholeList : List ℕ → List ℕ → List ℕ
+wholeList list packed = list ++ listWords packed

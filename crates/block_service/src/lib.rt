@@ -19,6 +19,7 @@ pub use crate::service::NewSettings;
 pub use crate::service::Protection;
 pub use crate::service::Settings;
 pub use crate::service::erase_blocks;
+pub use crate::service::erase_byte_list;
 pub use crate::service::get_attributes;
 pub use crate::service::get_block_size;
 pub use crate::service::get_physical_address;

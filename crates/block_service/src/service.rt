@@ -1,14 +1,17 @@
-// The block service: the eight calls over a state and the volume bytes that the caller lends.
+// The block service: the eight calls over a state and the volume bytes that the caller lends. An erase takes its list as words
+// or as bytes.
 //
 // Every call answers every state and every argument. The answer, the state afterwards, and the whole
 // contents of the volume and of the reader's buffer afterwards are those of `step` in specs/Service. A call
 // costs a test of the state (passes over at most 32 map entries), a scan of the map for each block or erase
 // pair that it names, and the bytes that it moves. Each call copies the state's map once and lends the copy on.
 ghost use mathlib.Core.List.{List, []};
+ghost use mathlib.Core.Option.{some};
 ghost use mathlib.Core.Path.{_≡_};
 ghost use Prim.Native.Nat.{ℕ};
-ghost use Rattle.common.specs.Refusals.{firstRefusal};
+ghost use Rattle.common.specs.Refusals.{firstRefusal, unlessRefused};
 ghost use Rattle.volume.specs.State.{stateWith};
+ghost use Rattle.block_service.specs.Erase.{listWords, wholeList};
 ghost use Rattle.block_service.specs.Service.{step, result, settingsAnswer, addressAnswer, blockSizeAnswer, movedAnswer, erasedAnswer, protectionAnswer};
 ghost use Rattle.block_service.specs.Service.{getAttributes, setAttributes, getPhysicalAddress, getBlockSize, eraseBlocks, protectBlocks};
 ghost use Rattle.block_service.specs.Service.{lentRefusals, reachOf, refusalOf, moveAnswer};
@@ -271,29 +274,16 @@ pub fn write(st: State, volume: &mut [u8], block: u64, offset: usize, new: &[u8]
 pub fn erase_blocks(st: State, volume: &mut [u8], list: &[u64]) -> Erased
     ensures { λ r. ⌜ result (erasedAnswer r) st (now (volume .exit)) [] ≡ step st (now (volume .entry)) (eraseBlocks (now (list .entry))) ⌝ }
 {
-    let map = st.map;
-    let first = lent_refusal(
-        st.length,
-        st.attributes,
-        st.base,
-        st.edition,
-        st.protected,
-        st.entries,
-        &map,
-        volume.len() as u64,
-        WRITE_STATUS,
-    );
-    if let Check::Refused(number) = first {
-        return Erased::Refused(number);
-    }
-    let total = block_count(st.entries, &map);
-    let second = list_refusal(total, st.protected, list);
-    if let Check::Refused(number) = second {
-        return Erased::Refused(number);
-    }
-    let end = 2 * st.entries;
-    erase_list(&map[..end], volume, list, erased_byte(st.attributes));
-    Erased::Success
+    let none = [0u8; 0];
+    erase(st, volume, list, &none)
+}
+
+// The same with a list that comes as bytes, eight to a word, the lowest first; a part word at the end is ignored.
+pub fn erase_byte_list(st: State, volume: &mut [u8], list: &[u8]) -> Erased
+    ensures { λ r. ⌜ result (erasedAnswer r) st (now (volume .exit)) [] ≡ step st (now (volume .entry)) (eraseBlocks (listWords (now (list .entry)))) ⌝ }
+{
+    let none = [0u64; 0];
+    erase(st, volume, &none, list)
 }
 
 // Protects the blocks from the first on: no call with the state that is answered, or with one that later calls make of it,
@@ -330,6 +320,51 @@ pub fn protect_blocks(st: State, first: u64) -> NewProtection
         answer: Protection::Success,
         state: next,
     }
+}
+
+// An erase with a list of which the first words come as words and those after them as bytes. The list's refusals come after
+// those of the state, the lent volume and the settings.
+fn erase(st: State, volume: &mut [u8], list: &[u64], packed: &[u8]) -> Erased
+    ensures { λ r. ⌜ result (erasedAnswer r) st (now (volume .exit)) []
+        ≡ step st (now (volume .entry)) (eraseBlocks (wholeList (now (list .entry)) (now (packed .entry)))) ⌝ }
+{
+    let map = st.map;
+    let lent = lent_refusal(
+        st.length,
+        st.attributes,
+        st.base,
+        st.edition,
+        st.protected,
+        st.entries,
+        &map,
+        volume.len() as u64,
+        WRITE_STATUS,
+    );
+    let total = block_count(st.entries, &map);
+    let listed = list_refusal(total, st.protected, list, packed);
+    let refusal = first_of(lent, listed);
+    if let Check::Refused(number) = refusal {
+        return Erased::Refused(number);
+    }
+    let end = 2 * st.entries;
+    erase_list(
+        &map[..end],
+        volume,
+        list,
+        packed,
+        erased_byte(st.attributes),
+    );
+    Erased::Success
+}
+
+// The first's refusal where it is one, otherwise what the second says.
+fn first_of(first: Check, second: Check) -> Check
+    ensures { λ r. ⌜ refusalOf r ≡ unlessRefused (λ number. some number) (refusalOf first) (refusalOf second) ⌝ }
+{
+    if let Check::Refused(number) = first {
+        return Check::Refused(number);
+    }
+    second
 }
 
 // Reads are free: no block is kept from them.

@@ -23,8 +23,7 @@ use crate::streams::append_case;
 use crate::streams::first_case;
 use crate::streams::search_case;
 
-// The most bytes of a script. tests/limits builds a program with more, and with a longer VOLUME and ROOM in headers.rt and
-// streams.rt.
+// The most bytes of a script.
 const SCRIPT: usize = 1376256;
 
 fn main() {

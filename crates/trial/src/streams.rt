@@ -83,8 +83,7 @@ fn found_fields(stream: &[u8], answer: Found) {
 }
 
 // Appending: the buffer's length, the used count, the type, the body, the stream and the pattern that
-// the buffer holds before, the instance that is then searched for, in PI mode the mode, and, where it
-// is not all of them, how many bytes of the arrays the case works on.
+// the buffer holds before, the instance that is then searched for, and in PI mode the mode.
 pub(crate) fn append_case(case: &[u8]) {
     let mut before = [0u8; ROOM];
     let mut buffer = [0u8; ROOM];
@@ -92,17 +91,7 @@ pub(crate) fn append_case(case: &[u8]) {
 }
 
 fn append_arrays(case: &[u8], before: &mut [u8; ROOM], buffer: &mut [u8; ROOM]) {
-    append_slices(case, before, buffer);
-}
-
-fn append_slices(case: &[u8], before: &mut [u8], buffer: &mut [u8]) {
-    let n = least(working(number(case, 10)), before.len());
-    let m = least(n, buffer.len());
-    append_parts(case, &mut before[..n], &mut buffer[..m]);
-}
-
-fn working(n: u64) -> usize {
-    if n == 0 { ROOM } else { n as usize }
+    append_parts(case, before, buffer);
 }
 
 fn append_parts(case: &[u8], before: &mut [u8], buffer: &mut [u8]) {

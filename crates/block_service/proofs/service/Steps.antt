@@ -98,6 +98,15 @@ module _ (st : State) (n status : ℕ) (rows : List Row) where
   pub lent-then : firstRefusal (lentRefusals st n status) ≡ none → firstRefusal (lentRefusals st n status ++ rows) ≡ firstRefusal rows
   lent-then e = then-passed (lentRefusals st n status) _ e
 
+  -- so the table's refusal is the first three's where they refuse, and otherwise that of the rows behind them
+  pub lent-both : unlessRefused (λ m. some m) (firstRefusal (lentRefusals st n status)) (firstRefusal rows) ≡ firstRefusal (lentRefusals st n status ++ rows)
+  lent-both = go (firstRefusal (lentRefusals st n status)) refl
+    where
+      go : (o : Option ℕ) → firstRefusal (lentRefusals st n status) ≡ o
+          → unlessRefused (λ m. some m) o (firstRefusal rows) ≡ firstRefusal (lentRefusals st n status ++ rows)
+      go none e = sym (lent-then e)
+      go (some m) e = sym (lent-first m e)
+
 module _ (st : State) (n status : ℕ) (t : Bool) (rest : List Row) (e : firstRefusal (lentRefusals st n status) ≡ none) where
   pub lent-2 : t ≡ true → firstRefusal (lentRefusals st n status ++ (row t 2 ∷ rest)) ≡ some 2
   lent-2 h = lent-then st n status _ e ∙ row-applies _ _ _ h

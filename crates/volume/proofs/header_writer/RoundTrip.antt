@@ -52,7 +52,7 @@ le-after : (n : ℕ) (p q : List ℕ) (at k : ℕ) → length p + k ≡ at → l
 le-after n p q at k e = ap (λ (x : ℕ). le n (p ++ q) x) (sym e) ∙ le-skip n p q k
 
 -- the words of a map that stands after p
-words-read : (words p q : List ℕ) → ((i : ℕ) → getD words i 0 < 2 ^ 32) → wordsAt (length words) (p ++ (wordsBytes words ++ q)) (length p) ≡ words
+pub words-read : (words p q : List ℕ) → ((i : ℕ) → getD words i 0 < 2 ^ 32) → wordsAt (length words) (p ++ (wordsBytes words ++ q)) (length p) ≡ words
 unfolding wordsAt wordsBytes
 words-read [] p q below = refl
 words-read (w ∷ words) p q below =

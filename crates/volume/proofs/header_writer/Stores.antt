@@ -17,18 +17,18 @@ use Rattle.volume.specs.Header.{signature, wordSum}
 use Rattle.volume.specs.HeaderWriter.{wordsBytes, headerFront, headerWith, headerBack, headerBytes, checksum, writeRefusals, wrote, writeHeader}
 
 -- the stores of map words from place i on: the word there and then the rest, or only what follows the map
-pub words-next : (m r z : List ℕ) (i : ℕ) → i < length m
-    → sets r (56 + 4 * i) (wordsBytes (drop i m) ++ z)
-    ≡ sets (sets r (56 + 4 * i) (leBytes 4 (getD m i 0))) (56 + 4 * (i + 1)) (wordsBytes (drop (i + 1) m) ++ z)
+pub words-next : (m r z : List ℕ) (at i : ℕ) → i < length m
+    → sets r (at + 4 * i) (wordsBytes (drop i m) ++ z)
+    ≡ sets (sets r (at + 4 * i) (leBytes 4 (getD m i 0))) (at + 4 * (i + 1)) (wordsBytes (drop (i + 1) m) ++ z)
 unfolding wordsBytes
-words-next m r z i h =
-    let e : 56 + 4 * (i + 1) ≡ 56 + 4 * i + 4 = omega arith in
+words-next m r z at i h =
+    let e : at + 4 * (i + 1) ≡ at + 4 * i + 4 = omega arith in
     rw (
       e,
       drop-cons m i 0 h,
       add-one,
       append-assoc (leBytes 4 (getD m i 0)) (wordsBytes (drop (suc i) m)) z,
-      sets-append (leBytes 4 (getD m i 0)) (wordsBytes (drop (suc i) m) ++ z) r (56 + 4 * i),
+      sets-append (leBytes 4 (getD m i 0)) (wordsBytes (drop (suc i) m) ++ z) r (at + 4 * i),
       length-leBytes 4 (getD m i 0),
     )
 

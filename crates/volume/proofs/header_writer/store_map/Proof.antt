@@ -56,7 +56,7 @@ loop-again c =
     let m = now (widened .before .before .before .before .before .before .before .args .map) in (
       search needs,
       stored .store .kept .0 ∙ l .inv .1,
-      l .inv .2 ∙ words-next m (l .room) (replicate 8 0) (l .i) (omega arith)
+      l .inv .2 ∙ words-next m (l .room) (replicate 8 0) 56 (l .i) (omega arith)
           ∙ ap (λ (x : List ℕ). sets x (56 + 4 * (l .i + 1)) (wordsBytes (drop (l .i + 1) m) ++ replicate 8 0))
           (sym (rw (widened .wide .ensures .0) at (stored .store .ensures))),
     )

@@ -1,0 +1,210 @@
+-- A refusal's number is neither 0 nor 4, of every call within: so the number that a call returns tells success, short and refusal apart.
+use Prim.Native.Nat.{ℕ, zero, suc, _+_, _-_, _≤_}
+use mathlib.Core.Path.{_≡_, refl, ap, subst}
+use mathlib.Core.Bool.{Bool, true, false, cond}
+use mathlib.Core.List.{List, [], _∷_}
+use mathlib.Core.Option.{Option, none, some, Option·none-ne-some}
+use native.Mathlib.Omega.{arith}
+use lib.Dec.{eqb, ltb}
+use lib.ListN.{length, getElem?}
+use Rattle.common.specs.Answers.{Answer, refused, success, short, refusalIn}
+use Rattle.common.specs.Refusals.{Row, firstRefusal, unlessRefused}
+use Rattle.volume.specs.Header.{openRefusals, opened, opens, openVolume, stateAt}
+use Rattle.volume.specs.State.{zeroState}
+use Rattle.volume.specs.ExtendedEntry.{entryOf, extEntriesOf, extEntry}
+use Rattle.volume.specs.ExtendedHeader.{Entry}
+use Rattle.block_service.specs.Service.{eraseBlocks, lentRefusals, read, refusals, step, write}
+use Rattle.volume.specs.declared.state.State.{State}
+use Rattle.block_service.proofs.Theorems.{refused-exactly}
+use Rattle.sections.specs.Append.{appendOf, appendRefusals, usedAfter}
+use Rattle.sections.specs.Header.{headAt}
+use Rattle.sections.specs.Search.{Section, firstAnswer, firstFault, ofType, partAnswer, searchFirstOf, searchOf, sections}
+use Rattle.sections.specs.Walk.{Trace, done, fault, section, afterPadding, aligned, andThen, firstNonzero, meet, part, siblings, streamLimit, streamWalk, walk, zeros}
+use Rattle.sections.specs.declared.header.Head.{Head}
+use Rattle.sections.specs.declared.header.Head.the-variants.{Fault, Closed, Open}
+use Rattle.sections.specs.declared.header.Mode.{Mode}
+use Rattle.sections.proofs.header.Cases.{fault-range}
+use Rattle.fv.specs.Called.{IsRefusal}
+
+number-of : (a b : ℕ) → refused a ≡ refused b → a ≡ b
+number-of a b e = cc
+
+answered : (values : List ℕ) (n : ℕ) → success values ≡ refused n → ⊥
+answered values n e = Option·none-ne-some n (ap refusalIn e)
+
+large : (n : ℕ) → 5 ≤ n → IsRefusal n
+large n h = (λ e. omega arith, λ e. omega arith)
+
+-- ---- tables
+
+-- every row's number is a refusal's
+abbrev AllRefuse : List Row → Type 0
+AllRefuse [] = Unit {0}
+AllRefuse (r ∷ rest) = IsRefusal (r .number) × AllRefuse rest
+
+first-number : (rows : List Row) → AllRefuse rows → (n : ℕ) → firstRefusal rows ≡ some n → IsRefusal n
+unfolding firstRefusal
+first-number [] all n e = absurd (Option·none-ne-some n e)
+first-number (r ∷ rest) all n e = go (r .test) (first-number rest (all .1) n) e
+  where
+    go : (t : Bool) → (firstRefusal rest ≡ some n → IsRefusal n) → cond t (some (r .number)) (firstRefusal rest) ≡ some n → IsRefusal n
+    go true later e = let z : r .number ≡ n = cc in subst IsRefusal z (all .0)
+    go false later e = later e
+
+two : IsRefusal 2
+two = (λ e. omega arith, λ e. omega arith)
+
+-- ---- the calls on volumes
+
+module _ (st : State) (v : List ℕ) (n : ℕ) where
+  pub read-number : (b o : ℕ) (buffer : List ℕ) → step st v (read b o buffer) .answer ≡ refused n → IsRefusal n
+  unfolding refusals lentRefusals
+  read-number b o buffer e =
+      first-number (refusals st (length v) (read b o buffer)) (large 111 (omega arith), (large 5 (omega arith), (large 15 (omega arith), (two, tt)))) n
+      (refused-exactly st v (read b o buffer) n .0 e)
+
+  pub write-number : (b o : ℕ) (new : List ℕ) → step st v (write b o new) .answer ≡ refused n → IsRefusal n
+  unfolding refusals lentRefusals
+  write-number b o new e =
+      first-number (refusals st (length v) (write b o new)) (large 111 (omega arith), (large 5 (omega arith), (large 15 (omega arith), (two, (large 15 (omega arith), tt))))) n
+      (refused-exactly st v (write b o new) n .0 e)
+
+  pub erase-number : (list : List ℕ) → step st v (eraseBlocks list) .answer ≡ refused n → IsRefusal n
+  unfolding refusals lentRefusals
+  erase-number list e =
+      first-number (refusals st (length v) (eraseBlocks list)) (large 111 (omega arith), (large 5 (omega arith), (large 15 (omega arith), (two, (large 15 (omega arith), tt))))) n
+      (refused-exactly st v (eraseBlocks list) n .0 e)
+
+pub open-number : (v : List ℕ) (base n : ℕ) → openVolume v base .answer ≡ refused n → IsRefusal n
+unfolding openVolume openRefusals
+open-number v base n = go (firstRefusal (openRefusals v (stateAt v base))) refl
+  where
+    l : (k : ℕ) → 5 ≤ k → IsRefusal k
+    l = large
+
+    all : AllRefuse (openRefusals v (stateAt v base))
+    all = (l 101 (omega arith), (l 102 (omega arith), (l 103 (omega arith), (l 104 (omega arith), (l 105 (omega arith), (l 106 (omega arith), (l 107 (omega arith), (l 108 (omega arith), (l 109 (omega arith), (l 110 (omega arith), (l 112 (omega arith), tt)))))))))))
+
+    go : (o : Option ℕ) → firstRefusal (openRefusals v (stateAt v base)) ≡ o
+        → unlessRefused (λ k. opens (refused k) zeroState) o (opened (stateAt v base)) .answer ≡ refused n → IsRefusal n
+    go none p e = absurd (answered [] n e)
+    go (some k) p e = subst IsRefusal (number-of k n e) (first-number (openRefusals v (stateAt v base)) all k p)
+
+pub entry-number : (v : List ℕ) (number n : ℕ) → extEntry v number ≡ refused n → IsRefusal n
+unfolding extEntry entryOf
+entry-number v number n = go (openVolume v 0 .answer) refl
+  where
+    missing : (entries : List Entry) (k : ℕ) → entryOf entries k ≡ refused n → IsRefusal n
+    missing [] k e = subst IsRefusal (number-of 14 n e) (large 14 (omega arith))
+    missing (x ∷ rest) zero e = absurd (answered _ n e)
+    missing (x ∷ rest) (suc k) e = missing rest k e
+
+    go : (a : Answer) → openVolume v 0 .answer ≡ a → unlessRefused (λ k. refused k) (refusalIn a) (entryOf (extEntriesOf v) number) ≡ refused n → IsRefusal n
+    go (refused k) p e = subst IsRefusal (number-of k n e) (open-number v 0 k p)
+    go (success values) p e = missing (extEntriesOf v) number e
+    go (short values) p e = missing (extEntriesOf v) number e
+
+-- ---- the calls on section streams
+
+-- every fault of a walk has a number from 201 on
+abbrev Faults : Trace → Type 0
+Faults done = Unit {0}
+Faults (fault n start e) = 201 ≤ n
+Faults (section t f e rest) = Faults rest
+
+faults-then : (x y : Trace) → Faults x → Faults y → Faults (andThen x y)
+unfolding andThen
+faults-then done y p q = q
+faults-then (fault n start e) y p q = p
+faults-then (section t f e rest) y p q = faults-then rest y p q
+
+faults-padding : (s : List ℕ) (base e : ℕ) (rest : ℕ → Trace) → Faults (rest (aligned e)) → Faults (afterPadding s base e rest)
+unfolding afterPadding
+faults-padding s base e rest p = go (zeros s e (aligned e - e))
+  where
+    go : (b : Bool) → Faults (cond b (rest (aligned e)) (fault 207 (base + firstNonzero s e (aligned e - e)) (base + length s)))
+    go true = p
+    go false = omega arith
+
+module _ (mode : Mode) where
+  module _ (n : ℕ) (inner : List ℕ → ℕ → Trace) (below : (l : List ℕ) (b : ℕ) → Faults (inner l b)) (s : List ℕ) (base : ℕ) where
+    faults-meet : (at : ℕ) (rest : ℕ → Trace) (h : Head) → headAt mode s at ≡ h → ((next : ℕ) → Faults (rest next)) → Faults (meet n inner s base at h rest)
+    unfolding meet
+    faults-meet at rest (Fault m) p q = fault-range mode s at m p .0
+    faults-meet at rest (Closed t first e) p q = faults-padding s base e rest (q (aligned e))
+    faults-meet at rest (Open t first f e) p q = go (eqb n 0)
+      where
+        go : (b : Bool) → Faults (cond b (fault 205 (base + at) (base + length s))
+            (section t (base + first) (base + e) (andThen (inner (part f e s) (base + f)) (afterPadding s base e rest))))
+        go true = omega arith
+        go false = faults-then (inner (part f e s) (base + f)) (afterPadding s base e rest) (below (part f e s) (base + f)) (faults-padding s base e rest (q (aligned e)))
+
+    faults-siblings : (fuel at : ℕ) → Faults (siblings mode n inner fuel s base at)
+    unfolding siblings
+    faults-siblings zero at = tt
+    faults-siblings (suc fuel) at = go (ltb at (length s)) (faults-meet at (siblings mode n inner fuel s base) (headAt mode s at) refl (λ next. faults-siblings fuel next))
+      where
+        go : (b : Bool) → Faults (meet n inner s base at (headAt mode s at) (siblings mode n inner fuel s base))
+            → Faults (cond b (meet n inner s base at (headAt mode s at) (siblings mode n inner fuel s base)) done)
+        go true p = p
+        go false p = tt
+
+  faults-walk : (n : ℕ) (s : List ℕ) (base : ℕ) → Faults (walk mode n s base)
+  unfolding walk
+  faults-walk zero s base = faults-siblings 0 (λ l b. done) (λ l b. tt) s base (length s) 0
+  faults-walk (suc n) s base = faults-siblings (suc n) (walk mode n) (faults-walk n) s base (length s) 0
+
+  faults-stream : (s : List ℕ) → Faults (streamWalk mode s)
+  unfolding streamWalk
+  faults-stream s = go (ltb (streamLimit mode) (length s))
+    where
+      go : (b : Bool) → Faults (cond b (fault 206 0 (length s)) (walk mode 7 s 0))
+      go true = omega arith
+      go false = faults-walk 7 s 0
+
+  fault-number : (x : Trace) (n : ℕ) → Faults x → firstFault x ≡ some n → 201 ≤ n
+  unfolding firstFault
+  fault-number done n p e = absurd (Option·none-ne-some n e)
+  fault-number (fault m start f) n p e = let z : m ≡ n = cc in omega arith
+  fault-number (section t f e rest) n p q = fault-number rest n p q
+
+  not-there : (o : Option Section) (n : ℕ) → partAnswer o ≡ refused n → IsRefusal n
+  not-there none n e = subst IsRefusal (number-of 14 n e) (large 14 (omega arith))
+  not-there (some x) n e = absurd (answered _ n e)
+
+  pub search-number : (s : List ℕ) (t k n : ℕ) → searchOf mode s t k ≡ refused n → IsRefusal n
+  unfolding searchOf
+  search-number s t k n = go (firstFault (streamWalk mode s)) refl
+    where
+      found : Option Section
+      found = getElem? (ofType t (sections (streamWalk mode s))) k
+
+      go : (o : Option ℕ) → firstFault (streamWalk mode s) ≡ o → unlessRefused refused o (partAnswer found) ≡ refused n → IsRefusal n
+      go none p e = not-there found n e
+      go (some m) p e =
+          let h = fault-number (streamWalk mode s) m (faults-stream s) p in
+          subst IsRefusal (number-of m n e) (large m (omega arith))
+
+  first-answer : (t n : ℕ) (x : Trace) → Faults x → firstAnswer t x ≡ refused n → IsRefusal n
+  unfolding firstAnswer
+  first-answer t n done p e = subst IsRefusal (number-of 14 n e) (large 14 (omega arith))
+  first-answer t n (fault m start f) p e = subst IsRefusal (number-of m n e) (large m (omega arith))
+  first-answer t n (section u f e rest) p q = go (eqb u t) (first-answer t n rest p) q
+    where
+      go : (b : Bool) → (firstAnswer t rest ≡ refused n → IsRefusal n) → cond b (success (f ∷ e ∷ [])) (firstAnswer t rest) ≡ refused n → IsRefusal n
+      go true later r = absurd (answered (f ∷ e ∷ []) n r)
+      go false later r = later r
+
+  pub first-number-of : (s : List ℕ) (t n : ℕ) → searchFirstOf mode s t ≡ refused n → IsRefusal n
+  first-number-of s t n e = first-answer t n (streamWalk mode s) (faults-stream s) e
+
+  pub append-number : (room used t m n : ℕ) → appendOf mode room used t m ≡ refused n → IsRefusal n
+  unfolding appendOf appendRefusals
+  append-number room used t m n = go (firstRefusal (appendRefusals mode room used t m)) refl
+    where
+      all : AllRefuse (appendRefusals mode room used t m)
+      all = (two, (two, (two, (large 202 (omega arith), (large 206 (omega arith), (large 206 (omega arith), (large 5 (omega arith), tt)))))))
+
+      go : (o : Option ℕ) → firstRefusal (appendRefusals mode room used t m) ≡ o → unlessRefused refused o (success (usedAfter mode used m ∷ [])) ≡ refused n → IsRefusal n
+      go none p e = absurd (answered _ n e)
+      go (some k) p e = subst IsRefusal (number-of k n e) (first-number (appendRefusals mode room used t m) all k p)

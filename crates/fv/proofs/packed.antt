@@ -1,0 +1,4 @@
+pub mod Copies
+pub mod Opened
+pub mod Packing
+pub mod RoundTrip

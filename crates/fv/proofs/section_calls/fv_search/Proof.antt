@@ -1,0 +1,42 @@
+-- `fv::section_calls::fv_search` meets its contract.
+use Rattle.fv.proofs.section_calls.Calls.{found-few, found-done}
+use Rattle.fv.proofs.answer.Answers.{given}
+use borrow.Author.Needs.{needs}
+use Rattle.fv.proofs.section_calls.fv_search.Statement.{statement}
+use Rattle.fv.proofs.section_calls.fv_search.Tie as tie
+
+returns : tie.Need-returns
+returns c =
+    found-few _ _ (search needs)
+
+mode-of-requires : tie.Need-mode-of-requires
+mode-of-requires c κs = search needs
+
+search-requires : tie.Need-search-requires
+search-requires c κs = search needs
+
+found-outcome-requires : tie.Need-found-outcome-requires
+found-outcome-requires c κs = search needs
+
+give-requires : tie.Need-give-requires
+give-requires c κs = search needs
+
+same-length : tie.Need-same-length
+same-length c = search needs
+
+returns-2 : tie.Need-returns-2
+returns-2 c =
+    found-done _ _ (search needs) _ _ _ (rw (c .before .before .before .before .before .before .mode-of .ensures) at (c .before .before .before .before .before .search .ensures))
+    (given (c .before .before .before .before .found-outcome .result) _ _ _ _ (c .before .before .before .before .found-outcome .ensures) (c .before .before .give .ensures))
+
+pub fv-search-spec : {M : Type 1} → statement M
+fv-search-spec =
+    tie.close
+    (tie.spec
+    returns
+    mode-of-requires
+    search-requires
+    found-outcome-requires
+    give-requires
+    same-length
+    returns-2)

@@ -1,0 +1,42 @@
+-- `fv::section_calls::fv_search_first` meets its contract.
+use Rattle.fv.proofs.section_calls.Calls.{found-few, found-done}
+use Rattle.fv.proofs.answer.Answers.{given}
+use borrow.Author.Needs.{needs}
+use Rattle.fv.proofs.section_calls.fv_search_first.Statement.{statement}
+use Rattle.fv.proofs.section_calls.fv_search_first.Tie as tie
+
+returns : tie.Need-returns
+returns c =
+    found-few _ _ (search needs)
+
+mode-of-requires : tie.Need-mode-of-requires
+mode-of-requires c κs = search needs
+
+search-first-requires : tie.Need-search-first-requires
+search-first-requires c κs = search needs
+
+found-outcome-requires : tie.Need-found-outcome-requires
+found-outcome-requires c κs = search needs
+
+give-requires : tie.Need-give-requires
+give-requires c κs = search needs
+
+same-length : tie.Need-same-length
+same-length c = search needs
+
+returns-2 : tie.Need-returns-2
+returns-2 c =
+    found-done _ _ (search needs) _ _ _ (rw (c .before .before .before .before .before .before .mode-of .ensures) at (c .before .before .before .before .before .search-first .ensures))
+    (given (c .before .before .before .before .found-outcome .result) _ _ _ _ (c .before .before .before .before .found-outcome .ensures) (c .before .before .give .ensures))
+
+pub fv-search-first-spec : {M : Type 1} → statement M
+fv-search-first-spec =
+    tie.close
+    (tie.spec
+    returns
+    mode-of-requires
+    search-first-requires
+    found-outcome-requires
+    give-requires
+    same-length
+    returns-2)

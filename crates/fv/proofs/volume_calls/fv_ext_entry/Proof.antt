@@ -1,0 +1,37 @@
+-- `fv::volume_calls::fv_ext_entry` meets its contract.
+use Rattle.fv.proofs.volume_calls.Calls.{entry-few, entry-done}
+use Rattle.fv.proofs.answer.Answers.{given}
+use borrow.Author.Needs.{needs}
+use Rattle.fv.proofs.volume_calls.fv_ext_entry.Statement.{statement}
+use Rattle.fv.proofs.volume_calls.fv_ext_entry.Tie as tie
+
+returns : tie.Need-returns
+returns c =
+    entry-few _ _ _ (search needs)
+
+ext-entry-requires : tie.Need-ext-entry-requires
+ext-entry-requires c κs = search needs
+
+entry-outcome-requires : tie.Need-entry-outcome-requires
+entry-outcome-requires c κs = search needs
+
+give-requires : tie.Need-give-requires
+give-requires c κs = search needs
+
+same-length : tie.Need-same-length
+same-length c = search needs
+
+returns-2 : tie.Need-returns-2
+returns-2 c =
+    entry-done _ _ _ (search needs) _ _ _ (c .before .before .before .before .before .ext-entry .ensures) (given (c .before .before .before .before .entry-outcome .result) _ _ _ _ (c .before .before .before .before .entry-outcome .ensures) (c .before .before .give .ensures))
+
+pub fv-ext-entry-spec : {M : Type 1} → statement M
+fv-ext-entry-spec =
+    tie.close
+    (tie.spec
+    returns
+    ext-entry-requires
+    entry-outcome-requires
+    give-requires
+    same-length
+    returns-2)

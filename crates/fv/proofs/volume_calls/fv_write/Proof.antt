@@ -1,0 +1,51 @@
+-- `fv::volume_calls::fv_write` meets its contract.
+use Rattle.fv.proofs.volume_calls.Calls.{write-few-state, write-few-answer, write-done}
+use Rattle.fv.proofs.answer.Answers.{given}
+use borrow.Author.Needs.{needs}
+use Rattle.fv.proofs.volume_calls.fv_write.Statement.{statement}
+use Rattle.fv.proofs.volume_calls.fv_write.Tie as tie
+
+returns : tie.Need-returns
+returns c =
+    write-few-state _ _ _ _ _ _ (search needs)
+
+returns-2 : tie.Need-returns-2
+returns-2 c =
+    write-few-answer _ _ _ _ _ _ (search needs) (search needs)
+
+unpack-requires : tie.Need-unpack-requires
+unpack-requires c κs = search needs
+
+write-requires : tie.Need-write-requires
+write-requires c κs = search needs
+
+moved-outcome-requires : tie.Need-moved-outcome-requires
+moved-outcome-requires c κs = search needs
+
+give-requires : tie.Need-give-requires
+give-requires c κs = search needs
+
+same-length : tie.Need-same-length
+same-length c = search needs
+
+same-length-2 : tie.Need-same-length-2
+same-length-2 c = search needs
+
+returns-3 : tie.Need-returns-3
+returns-3 c =
+    write-done _ _ _ _ _ _ (search needs) (search needs) _ _ _ _ _ (rw (c .before .before .before .before .before .before .before .before .before .unpack .ensures) at (c .before .before .before .before .before .before .before .write .ensures))
+    (given (c .before .before .before .before .moved-outcome .result) _ _ _ _ (c .before .before .before .before .moved-outcome .ensures) (c .before .before .give .ensures))
+
+pub fv-write-spec : {M : Type 1} → statement M
+fv-write-spec =
+    tie.close
+    (tie.spec
+    returns
+    returns-2
+    unpack-requires
+    write-requires
+    moved-outcome-requires
+    give-requires
+    same-length
+    same-length-2
+    returns-3)

@@ -1,0 +1,132 @@
+/*
+ * Firmware volumes, from C: opening, read, write, erase, the entries of an extended header and the
+ * section calls. Each is proved to answer, on every input, what its definition in crates/fv/specs
+ * says: 5 for too few bytes, and otherwise what the library's call behind it answers (docs/API.md).
+ *
+ * `rt staticlib fv` proves and builds target/staticlib/libfv.a: x86-64 code with SSE2, System V
+ * calling convention and its red zone, which wants memcpy and memset of whom it is linked with.
+ *
+ * Every call returns a number: 0 for success; 4, short, where a read or a write was cut at the
+ * block's end (what was moved is moved, and the count is answered); or a refusal's number, never
+ * 0 or 4. A refusal changes no byte of any range. README.md says what each number means. Two of
+ * them come before all others here:
+ *     5      fewer than FV_STATE_BYTES of state, or fewer than FV_ANSWER_BYTES of answer, were lent
+ *     111    the state's bytes are no lawful state
+ *
+ * What the caller owes, since nothing can test it: every range, a pointer and a length, is memory
+ * that may be read, and stored into where it is not const, until the call returns; its pointer is
+ * not null even where the length is 0, and its length is below 2^63; a range that is not const
+ * overlaps no other range of the call. Bytes that a call only stores into may hold anything.
+ *
+ * No range needs an alignment. No call allocates, keeps anything, or reads a global; each takes less
+ * than 1 KiB of stack (measured, not proved). Ranges that are longer than what is stored keep the
+ * bytes behind it.
+ */
+#ifndef FV_H
+#define FV_H
+
+#include <stddef.h>
+#include <stdint.h>
+
+#ifdef __cplusplus
+extern "C" {
+#endif
+
+/*
+ * A state: 16 bytes of GUID, length and base (64 bits), attributes, edition, first protected block
+ * and number of map entries (32 bits), then 32 pairs of block count and block length (32 bits),
+ * zero beyond the entries. All little endian. Blocks from the first protected one on are neither
+ * written nor erased: fv_open sets it to the number of blocks, and a caller that lowers it, bytes
+ * 40 to 43, protects the blocks from there on (one past the number of blocks is 111, and nothing
+ * keeps a caller from raising it again). A state is not tied to a volume: a call follows the state
+ * that it is given, on the volume that it is lent.
+ */
+#define FV_STATE_BYTES 304
+
+/* An answer: two 64-bit numbers, little endian. */
+#define FV_ANSWER_BYTES 16
+
+/* Section modes: 0, and any other. FV_PI is for files whose sections may have a 32-bit size. */
+#define FV_FRAMEWORK 0
+#define FV_PI 1
+
+/*
+ * Opens a volume at a base address, of either edition, and stores its state, no block protected.
+ * Refused with 5 (state), then 101 to 110 and 112. The calls that follow go by the state alone: the
+ * header is not read again, even after it was written or erased.
+ */
+uint32_t fv_open(uint8_t *state, size_t state_len,
+                 const uint8_t *volume, size_t volume_len, uint64_t base);
+
+/*
+ * Reads from an offset of a block into the start of the buffer, up to the block's end; the rest of
+ * the buffer stays. Answers the number of bytes read, and 0. From an offset at or behind the
+ * block's end none are: 4, or 0 for a buffer of no bytes. Refused with 5 (state or answer), 111,
+ * 5 (fewer volume bytes than the state's length), 15 (reads are disabled), 2 (no such block).
+ */
+uint32_t fv_read(const uint8_t *state, size_t state_len,
+                 const uint8_t *volume, size_t volume_len, uint64_t block, uint64_t offset,
+                 uint8_t *buffer, size_t buffer_len, uint8_t *answer, size_t answer_len);
+
+/*
+ * Writes the data from an offset of a block on, up to the block's end, by the volume's write rule:
+ * with sticky write, bits leave the erase value and do not come back. Every other byte of the volume
+ * stays. Answers the number of bytes written, and 0. Refused with 5 (state or answer), 111,
+ * 5 (volume), 15 (writes are disabled), 2 (no such block), 15 (the block is protected).
+ */
+uint32_t fv_write(const uint8_t *state, size_t state_len,
+                  uint8_t *volume, size_t volume_len, uint64_t block, uint64_t offset,
+                  const uint8_t *data, size_t data_len, uint8_t *answer, size_t answer_len);
+
+/*
+ * Erases the blocks that a list names, and no other byte. The list is bytes, eight to a 64-bit word,
+ * little endian: pairs of first block and count, ended by 2^64 - 1 where a first block would stand.
+ * Words behind that are ignored, and so are up to seven bytes behind the last whole word. The whole
+ * list is looked at before a byte is stored. Answers nothing but its number. Refused with 5 (state),
+ * 111, 5 (volume), 15 (writes are disabled), 2 (a bad list), 15 (a block of it is protected).
+ */
+uint32_t fv_erase(const uint8_t *state, size_t state_len,
+                  uint8_t *volume, size_t volume_len, const uint8_t *list, size_t list_len);
+
+/*
+ * The section of a type that has `instance` sections of that type before it: depth first, a holder
+ * before what it holds, eight levels at most. Answers, as places in the stream, the first byte of
+ * what follows the section's first 4 bytes (8 where it has a 32-bit size), and the byte behind its
+ * last. Refused with 5 (answer), 201 to 207 for a fault anywhere in the stream, 14 (no such section).
+ */
+uint32_t fv_search(uint32_t mode, const uint8_t *stream, size_t stream_len,
+                   uint8_t section_type, uint64_t instance, uint8_t *answer, size_t answer_len);
+
+/*
+ * The first section of a type, without a look at what comes after its own header. Answers as
+ * fv_search does for instance 0, but that a fault in what it holds, in its padding or behind it is
+ * not met: use fv_search before a stream is trusted. Refused as that is; where no section has the
+ * type, for a fault anywhere.
+ */
+uint32_t fv_search_first(uint32_t mode, const uint8_t *stream, size_t stream_len,
+                         uint8_t section_type, uint8_t *answer, size_t answer_len);
+
+/*
+ * Appends a section that holds no others after the first `used` bytes of a buffer: zeros up to a
+ * multiple of 4, header, body. What is there already is not tested. Answers the new number of used
+ * bytes, and 0. Refused with 5 (answer), 2 (type 1 or 2, or `used` above the buffer's length),
+ * 202 (a free-form GUID body under 16 bytes), 206 (in mode 0 a section over 16,777,215 bytes; a
+ * stream over 16,777,216 bytes, in another mode 67,108,864), 5 (the buffer is too short).
+ */
+uint32_t fv_append(uint32_t mode, uint8_t *buffer, size_t buffer_len, uint64_t used,
+                   uint8_t section_type, const uint8_t *body, size_t body_len,
+                   uint8_t *answer, size_t answer_len);
+
+/*
+ * The entry of this number, from 0, of a volume's extended header (edition 2). Answers its first
+ * byte in the volume, and its size + 65536 * its type. Refused with 5 (answer), opening's numbers
+ * at base 0, 14 (no such entry, no extended header, edition 1).
+ */
+uint32_t fv_ext_entry(const uint8_t *volume, size_t volume_len, uint64_t number,
+                      uint8_t *answer, size_t answer_len);
+
+#ifdef __cplusplus
+}
+#endif
+
+#endif

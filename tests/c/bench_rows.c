@@ -1,0 +1,264 @@
+/* The rows of the benchmark: the volumes, erase lists and section streams that each one works on. */
+#include "bench.h"
+#include "plain.h"
+
+#include <string.h>
+
+enum { KIB = 1024, MIB = 1024 * 1024, BLOCK = 64 * KIB, LARGEST = 16 * MIB };
+
+/* Volume or stream, and what is read, written, listed or appended: half a page apart, so that no load has the page offset of a store just before it. */
+static _Alignas(4096) uint8_t bytes[LARGEST], data_pages[LARGEST + 4096];
+static uint8_t *const data = data_pages + 2048;
+
+static void put(uint8_t *to, uint64_t number, size_t width)
+{
+    memcpy(to, &number, width);         /* a little-endian machine */
+}
+
+/* Bytes that are neither all alike nor zero, and others for another period, at most 251. */
+static void pattern(uint8_t *to, size_t count, unsigned period)
+{
+    for (size_t i = 0; i < count; i++)
+        to[i] = (uint8_t)(i % period + 252 - period);
+}
+
+/* ---- Volumes ---- */
+
+/* Attributes: reads and writes enabled and memory mapped; erased bytes are FF, or 00. */
+enum { NO_STICKY = 0x0C3F, STICKY_AND = 0x0E3F, STICKY_OR = 0x063F };
+
+/* A volume of so many map entries, each of `count` blocks of that length. */
+static void make_volume(struct work *w, int attributes, int edition, int entries, int count, int length)
+{
+    size_t header = 64 + 8 * (size_t)entries;
+    uint16_t sum = 0, word;
+    memset(bytes, 0, header);
+    pattern(bytes + 16, 16, 251);
+    put(bytes + 32, (uint64_t)entries * (uint64_t)count * (uint64_t)length, 8);
+    memcpy(bytes + 40, "_FVH", 4);
+    put(bytes + 44, (uint64_t)attributes, 4);
+    put(bytes + 48, header, 2);
+    bytes[55] = (uint8_t)edition;
+    put(bytes + 52, edition == 2 ? header : 0, 2);
+    for (int i = 0; i < entries; i++) {
+        put(bytes + 56 + 8 * i, (uint64_t)count, 4);
+        put(bytes + 60 + 8 * i, (uint64_t)length, 4);
+    }
+    for (size_t i = 0; i < header; i += 2) {
+        memcpy(&word, bytes + i, 2);
+        sum = (uint16_t)(sum + word);
+    }
+    put(bytes + 50, (uint16_t)-sum, 2);
+    w->bytes = bytes;
+    w->bytes_len = (size_t)entries * (size_t)count * (size_t)length;
+}
+
+/* Such a volume, of edition 1, with its state. */
+static void open_new(struct work *w, int attributes, int entries, int count, int length)
+{
+    make_volume(w, attributes, 1, entries, count, length);
+    plain_open(w->state, sizeof w->state, w->bytes, w->bytes_len, 0);
+}
+
+static void prepare_open(struct work *w, int entries, int unused)
+{
+    (void)unused;
+    make_volume(w, NO_STICKY, 1, entries, 1, BLOCK);
+    w->call = OPEN;
+}
+
+/* The last of so many entries, of 16 bytes each, of an extended header. */
+static void prepare_ext_entry(struct work *w, int entries, int unused)
+{
+    uint8_t *ext = bytes + 72;
+    (void)unused;
+    make_volume(w, NO_STICKY, 2, 1, 1, BLOCK);
+    put(ext + 16, 20 + 16 * (uint64_t)entries, 4);
+    for (int i = 0; i < entries; i++)
+        put(ext + 20 + 16 * i, 16, 4);
+    w->call = EXT_ENTRY;
+    w->number = (uint64_t)entries - 1;
+}
+
+/* So many bytes from the start of a block, which is the last of 32 entries or one of the only entry. */
+static void prepare_move(struct work *w, int attributes, int entries, int count)
+{
+    open_new(w, attributes, entries, entries == 1 ? 16 : 1, BLOCK);
+    w->block = entries == 1 ? 5 : (uint64_t)entries - 1;
+    w->place = w->block * BLOCK;
+    w->data = data;
+    w->data_len = (size_t)count;
+    pattern(data, w->data_len, 251);
+    pattern(bytes + w->place, BLOCK, 241);
+}
+
+static void prepare_read(struct work *w, int entries, int count)
+{
+    prepare_move(w, NO_STICKY, entries, count);
+    w->call = READ;
+}
+
+static void prepare_write(struct work *w, int entries, int count)
+{
+    prepare_move(w, NO_STICKY, entries, count);
+    w->call = WRITE;
+}
+
+static void prepare_sticky_and(struct work *w, int entries, int count)
+{
+    prepare_move(w, STICKY_AND, entries, count);
+    w->call = WRITE;
+}
+
+static void prepare_sticky_or(struct work *w, int entries, int count)
+{
+    prepare_move(w, STICKY_OR, entries, count);
+    w->call = WRITE;
+}
+
+/* So many pairs, each of `count` blocks, spread evenly over 65,536 blocks of 256 bytes. */
+static void prepare_erase(struct work *w, int pairs, int count)
+{
+    int step = 65536 / pairs;
+    memset(bytes, 0, LARGEST);
+    open_new(w, NO_STICKY, 1, 65536, 256);
+    w->call = ERASE;
+    w->place = 256;
+    w->data = data;
+    w->data_len = 16 * (size_t)pairs + 8;
+    for (int i = 0; i < pairs; i++) {
+        put(data + 16 * i, (uint64_t)i * (uint64_t)step, 8);
+        put(data + 16 * i + 8, (uint64_t)count, 8);
+    }
+    put(data + 16 * pairs, UINT64_MAX, 8);
+}
+
+/* ---- Sections ---- */
+
+enum { COMPRESSION = 0x01, GUID_DEFINED = 0x02, PE32 = 0x10, RAW = 0x19 };
+
+/* Where the section wanted stands: the only one of its type, or none. */
+enum { AT_FIRST, AT_LAST, NOT_THERE };
+
+static void put_header(uint8_t *at, size_t size, uint8_t type)
+{
+    put(at, size | (uint64_t)type << 24, 4);
+}
+
+static void prepare_search(struct work *w, size_t stream_len, uint8_t *first_type, uint8_t *last_type, int where, int first_only)
+{
+    if (where != NOT_THERE)
+        *(where == AT_FIRST ? first_type : last_type) = PE32;
+    w->call = first_only ? SEARCH_FIRST : SEARCH;
+    w->bytes = bytes;
+    w->bytes_len = stream_len;
+    w->type = PE32;
+    w->expected = where == NOT_THERE ? 14 : 0;
+}
+
+/* 16 MiB of sections of this size, a multiple of 4. */
+static void prepare_sections(struct work *w, size_t size, int where, int first_only)
+{
+    for (size_t at = 0; at < LARGEST; at += size)
+        put_header(bytes + at, size, RAW);
+    prepare_search(w, LARGEST, bytes + 3, bytes + LARGEST - size + 3, where, first_only);
+}
+
+static void prepare_small(struct work *w, int where, int first_only)
+{
+    prepare_sections(w, 4, where, first_only);
+}
+
+static void prepare_large(struct work *w, int where, int first_only)
+{
+    prepare_sections(w, BLOCK, where, first_only);
+}
+
+/* Seven holders inside each other, compression and GUID-defined by turns, and an empty leaf on the eighth level. */
+enum { NEST = 4 * 9 + 3 * 24 + 4 };
+
+static void make_nest(uint8_t *at)
+{
+    size_t size = NEST;
+    memset(at, 0, size);
+    for (int level = 1; level <= 7; level++) {
+        size_t header = level % 2 ? 9 : 24;
+        put_header(at, size, level % 2 ? COMPRESSION : GUID_DEFINED);
+        if (level % 2)
+            put(at + 4, size - header, 4);
+        else
+            put(at + 20, header, 2);
+        at += header;
+        size -= header;
+    }
+    put_header(at, size, RAW);
+}
+
+/* 16 MiB of such holders; the section wanted is a leaf of the eighth level. */
+static void prepare_nested(struct work *w, int where, int first_only)
+{
+    size_t nests = LARGEST / NEST;
+    for (size_t i = 0; i < nests; i++)
+        make_nest(bytes + i * NEST);
+    prepare_search(w, nests * NEST, bytes + NEST - 1, bytes + nests * NEST - 1, where, first_only);
+}
+
+/* After 5 bytes, so that padding is stored. */
+static void prepare_append(struct work *w, int count, int unused)
+{
+    (void)unused;
+    memset(bytes, 0xFF, LARGEST);
+    put_header(bytes, 5, RAW);
+    w->call = APPEND;
+    w->bytes = bytes;
+    w->bytes_len = LARGEST;
+    w->used = 5;
+    w->type = RAW;
+    w->data = data;
+    w->data_len = (size_t)count;
+    w->place = 12;
+    pattern(data, w->data_len, 251);
+}
+
+const struct row rows[] = {
+    {"open, 1 map entry", "", prepare_open, 1, 0},
+    {"open, 32 map entries", "", prepare_open, 32, 0},
+    {"last of 1024 entries of an extended header", "", prepare_ext_entry, 1024, 0},
+    {"read 1 byte, 1 map entry", "memcpy", prepare_read, 1, 1},
+    {"read 1 byte, 32 map entries", "memcpy", prepare_read, 32, 1},
+    {"read 4 KiB, 1 map entry", "memcpy", prepare_read, 1, 4 * KIB},
+    {"read 4 KiB, 32 map entries", "memcpy", prepare_read, 32, 4 * KIB},
+    {"read 64 KiB, 1 map entry", "memcpy", prepare_read, 1, 64 * KIB},
+    {"write 1 byte, 1 map entry", "memcpy", prepare_write, 1, 1},
+    {"write 1 byte, 32 map entries", "memcpy", prepare_write, 32, 1},
+    {"write 4 KiB, 1 map entry", "memcpy", prepare_write, 1, 4 * KIB},
+    {"write 4 KiB, 32 map entries", "memcpy", prepare_write, 32, 4 * KIB},
+    {"write 64 KiB, 1 map entry", "memcpy", prepare_write, 1, 64 * KIB},
+    {"sticky write (AND) 1 byte, 1 map entry", "", prepare_sticky_and, 1, 1},
+    {"sticky write (AND) 1 byte, 32 map entries", "", prepare_sticky_and, 32, 1},
+    {"sticky write (AND) 4 KiB, 1 map entry", "", prepare_sticky_and, 1, 4 * KIB},
+    {"sticky write (AND) 4 KiB, 32 map entries", "", prepare_sticky_and, 32, 4 * KIB},
+    {"sticky write (AND) 64 KiB, 1 map entry", "", prepare_sticky_and, 1, 64 * KIB},
+    {"sticky write (OR) 1 byte, 1 map entry", "", prepare_sticky_or, 1, 1},
+    {"sticky write (OR) 4 KiB, 1 map entry", "", prepare_sticky_or, 1, 4 * KIB},
+    {"sticky write (OR) 64 KiB, 1 map entry", "", prepare_sticky_or, 1, 64 * KIB},
+    {"erase 16 MiB in 65,536 blocks, 1 pair", "memset", prepare_erase, 1, 65536},
+    {"erase 10,000 pairs of 1 block of 256 bytes", "memset", prepare_erase, 10000, 1},
+    {"search 16 MiB of 4-byte sections, first", "", prepare_small, AT_FIRST, 0},
+    {"search 16 MiB of 4-byte sections, last", "", prepare_small, AT_LAST, 0},
+    {"search 16 MiB of 4-byte sections, not there", "", prepare_small, NOT_THERE, 0},
+    {"search 16 MiB of 64 KiB sections, first", "", prepare_large, AT_FIRST, 0},
+    {"search 16 MiB of 64 KiB sections, last", "", prepare_large, AT_LAST, 0},
+    {"search 16 MiB of 64 KiB sections, not there", "", prepare_large, NOT_THERE, 0},
+    {"search 16 MiB nested eight deep, first", "", prepare_nested, AT_FIRST, 0},
+    {"search 16 MiB nested eight deep, last", "", prepare_nested, AT_LAST, 0},
+    {"search 16 MiB nested eight deep, not there", "", prepare_nested, NOT_THERE, 0},
+    {"search_first 16 MiB of 4-byte sections, first", "", prepare_small, AT_FIRST, 1},
+    {"search_first 16 MiB of 4-byte sections, last", "", prepare_small, AT_LAST, 1},
+    {"search_first 16 MiB nested eight deep, first", "", prepare_nested, AT_FIRST, 1},
+    {"search_first 16 MiB nested eight deep, last", "", prepare_nested, AT_LAST, 1},
+    {"append 4 KiB", "memcpy", prepare_append, 4 * KIB, 0},
+    {"append 16 MB", "memcpy", prepare_append, 16000000, 0},
+};
+
+const size_t rows_len = sizeof rows / sizeof rows[0];

@@ -1,0 +1,113 @@
+"""The loader's calls, request m of 02 and include/fv.h: the calls of volume.py and sections.py on plain numbers and byte ranges,
+the state packed into 304 bytes.
+
+Each function has the arguments of its C entry point in their order, a range as one value, and answers the number that is returned.
+Ranges that are not const are bytearrays and are changed in place; a range that is longer than what is stored keeps the rest.
+"""
+
+from model import sections, volume
+from model.volume import State
+
+STATE_BYTES, ANSWER_BYTES = 304, 16
+SHORT_STATE_OR_ANSWER = 5
+SUCCESS, SHORT = 0, 4
+
+
+def number(data, place, width):
+    return int.from_bytes(data[place:place + width], "little")
+
+
+# The packed state: (field, bytes) in their order, and then the 64 map words.
+FIELDS = (("guid", 16), ("length", 8), ("base", 8), ("attributes", 4), ("edition", 4), ("first_protected", 4), ("entries", 4))
+MAP = sum(width for _, width in FIELDS)     # where the map words start
+MAP_WORDS = 64
+
+
+def place_of(field):
+    """Where in the packed state a field starts."""
+    names = [name for name, _ in FIELDS]
+    return sum(width for _, width in FIELDS[:names.index(field)])
+
+
+def pack(state):
+    """The 304 bytes of a state whose numbers fit their fields."""
+    packed = state.guid
+    for field, width in FIELDS[1:]:
+        packed += getattr(state, field).to_bytes(width, "little")
+    return packed + b"".join(word.to_bytes(4, "little") for word in state.map)
+
+
+def unpack(packed):
+    values = {field: number(packed, place_of(field), width) for field, width in FIELDS}
+    values["guid"] = bytes(packed[:16])
+    return State(map=[number(packed, MAP + 4 * i, 4) for i in range(MAP_WORDS)], **values)
+
+
+def store(answer, first, second=0):
+    answer[:ANSWER_BYTES] = first.to_bytes(8, "little") + second.to_bytes(8, "little")
+
+
+def answered(answer, no, *values):
+    """Success and short store their values; a refusal stores nothing."""
+    if no in (SUCCESS, SHORT):
+        store(answer, *values)
+    return no
+
+
+def words_of(data):
+    """The words of an erase list; a part word at the end is ignored."""
+    return [number(data, i, 8) for i in range(0, len(data) - 7, 8)]
+
+
+# The eight calls.
+
+def fv_open(state, data, base):
+    if len(state) < STATE_BYTES:
+        return SHORT_STATE_OR_ANSWER
+    no, opened = volume.open_volume(data, base)
+    if no == SUCCESS:
+        state[:STATE_BYTES] = pack(opened)
+    return no
+
+
+def fv_read(state, data, block, offset, buffer, answer):
+    if len(state) < STATE_BYTES or len(answer) < ANSWER_BYTES:
+        return SHORT_STATE_OR_ANSWER
+    return answered(answer, *volume.read(unpack(state), data, block, offset, buffer))
+
+
+def fv_write(state, data, block, offset, stored, answer):
+    if len(state) < STATE_BYTES or len(answer) < ANSWER_BYTES:
+        return SHORT_STATE_OR_ANSWER
+    return answered(answer, *volume.write(unpack(state), data, block, offset, stored))
+
+
+def fv_erase(state, data, blocks):
+    if len(state) < STATE_BYTES:
+        return SHORT_STATE_OR_ANSWER
+    return volume.erase_blocks(unpack(state), data, words_of(blocks))[0]
+
+
+def fv_search(mode, stream, kind, instance, answer):
+    if len(answer) < ANSWER_BYTES:
+        return SHORT_STATE_OR_ANSWER
+    return answered(answer, *sections.search(stream, kind, instance, mode))
+
+
+def fv_search_first(mode, stream, kind, answer):
+    if len(answer) < ANSWER_BYTES:
+        return SHORT_STATE_OR_ANSWER
+    return answered(answer, *sections.search_first(stream, kind, mode))
+
+
+def fv_append(mode, buffer, used, kind, body, answer):
+    if len(answer) < ANSWER_BYTES:
+        return SHORT_STATE_OR_ANSWER
+    return answered(answer, *sections.append(buffer, used, kind, body, mode))
+
+
+def fv_ext_entry(data, n, answer):
+    if len(answer) < ANSWER_BYTES:
+        return SHORT_STATE_OR_ANSWER
+    no, first, size, entry_type = volume.ext_entry(data, n)
+    return answered(answer, no, first, size + 65536 * entry_type)
