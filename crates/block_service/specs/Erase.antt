@@ -52,4 +52,4 @@ listWords s = longsAt (length s / 8) s 0
 
 -- private to the code's contracts: an erase list of which the first words come as words and those after them as bytes
 unfoldable pub wholeList : List ℕ → List ℕ → List ℕ
-wholeList list packed = list ++ listWords packed
+wholeList list tail = list ++ listWords tail

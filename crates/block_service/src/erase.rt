@@ -1,5 +1,5 @@
 // Erasing the blocks that a list names. The list comes in two parts, so that one of words and one of bytes are each read where
-// they stand: the words of `list`, and after them those of the bytes `packed`, eight to a word.
+// they stand: the words of `list`, and after them those of the bytes `tail`, eight to a word.
 ghost use mathlib.Core.Bool.{true, not, cond, _&&_};
 ghost use mathlib.Core.List.{[], _∷_};
 ghost use mathlib.Core.Path.{_≡_};
@@ -26,20 +26,20 @@ pub const END_OF_LIST: u64 = 0xFFFFFFFFFFFFFFFF;
 
 // The refusals of an erase list for so many blocks: 2 where it has no terminator or a pair before it does not fit, then 15
 // where a pair names a protected block. One pass over the list.
-pub(crate) fn list_refusal(total: u64, protected: u64, list: &[u64], packed: &[u8]) -> Check
+pub(crate) fn list_refusal(total: u64, protected: u64, list: &[u64], tail: &[u8]) -> Check
     ensures { λ r. ⌜ refusalOf r
-        ≡ firstRefusal (row (not (goodList total (wholeList (now (list .entry)) (now (packed .entry))))) 2
-        ∷ row (reaches protected (wholeList (now (list .entry)) (now (packed .entry)))) 15 ∷ []) ⌝ }
+        ≡ firstRefusal (row (not (goodList total (wholeList (now (list .entry)) (now (tail .entry))))) 2
+        ∷ row (reaches protected (wholeList (now (list .entry)) (now (tail .entry)))) 15 ∷ []) ⌝ }
 {
-    let n = word_count(list, packed);
+    let n = word_count(list, tail);
     let mut reached = false;
     let mut i = 0;
     while i + 1 < n {
-        let first = word_at(list, packed, i);
+        let first = word_at(list, tail, i);
         if first == END_OF_LIST {
             return list_verdict(false, reached);
         }
-        let count = word_at(list, packed, i + 1);
+        let count = word_at(list, tail, i + 1);
         if !pair_fits(total, first, count) {
             return list_verdict(true, reached);
         }
@@ -49,30 +49,30 @@ pub(crate) fn list_refusal(total: u64, protected: u64, list: &[u64], packed: &[u
         i += 2;
     }
     if i < n {
-        let last = word_at(list, packed, i);
+        let last = word_at(list, tail, i);
         return list_verdict(last != END_OF_LIST, reached);
     }
     list_verdict(true, reached)
 }
 
 // The number of words of an erase list. A part word at the end of its bytes is none.
-fn word_count(list: &[u64], packed: &[u8]) -> usize
-    ensures { λ r. ⌜ r ≡ length (wholeList (now (list .entry)) (now (packed .entry))) ⌝ }
+fn word_count(list: &[u64], tail: &[u8]) -> usize
+    ensures { λ r. ⌜ r ≡ length (wholeList (now (list .entry)) (now (tail .entry))) ⌝ }
 {
-    list.len() + packed.len() / 8
+    list.len() + tail.len() / 8
 }
 
 // Word i of an erase list; past its end 0.
-fn word_at(list: &[u64], packed: &[u8], i: usize) -> u64
-    ensures { λ r. ⌜ r ≡ getD (wholeList (now (list .entry)) (now (packed .entry))) i 0 ⌝ }
+fn word_at(list: &[u64], tail: &[u8], i: usize) -> u64
+    ensures { λ r. ⌜ r ≡ getD (wholeList (now (list .entry)) (now (tail .entry))) i 0 ⌝ }
 {
     let n = list.len();
     if i < n {
         return list[i];
     }
     let k = i - n;
-    if k < packed.len() / 8 {
-        return u64_at(packed, 8 * k);
+    if k < tail.len() / 8 {
+        return u64_at(tail, 8 * k);
     }
     0
 }
@@ -105,21 +105,21 @@ fn pair_fits(total: u64, first: u64, count: u64) -> bool
 }
 
 // Erases the blocks that a good list names.
-pub(crate) fn erase_list(words: &[u32], volume: &mut [u8], list: &[u64], packed: &[u8], value: u8)
+pub(crate) fn erase_list(words: &[u32], volume: &mut [u8], list: &[u64], tail: &[u8], value: u8)
     requires { ⌜ bytes (now words) ≤ maxLength ⌝ }
     requires { ⌜ bytes (now words) ≤ length (now volume) ⌝ }
-    requires { ⌜ goodList (blocks (now words)) (wholeList (now list) (now packed)) ≡ true ⌝ }
+    requires { ⌜ goodList (blocks (now words)) (wholeList (now list) (now tail)) ≡ true ⌝ }
     ensures { λ _. ⌜ now (volume .exit)
-        ≡ edit (λ i old. cond (names (wholeList (now (list .entry)) (now (packed .entry))) (blockAt (now (words .entry)) i)) value old) 0 (now (volume .entry)) ⌝ }
+        ≡ edit (λ i old. cond (names (wholeList (now (list .entry)) (now (tail .entry))) (blockAt (now (words .entry)) i)) value old) 0 (now (volume .entry)) ⌝ }
 {
-    let n = word_count(list, packed);
+    let n = word_count(list, tail);
     let mut i = 0;
     while i < n {
-        let first = word_at(list, packed, i);
+        let first = word_at(list, tail, i);
         if first == END_OF_LIST {
             return;
         }
-        let count = word_at(list, packed, i + 1);
+        let count = word_at(list, tail, i + 1);
         erase_run(words, volume, first, count, value);
         i += 2;
     }

@@ -324,9 +324,9 @@ pub fn protect_blocks(st: State, first: u64) -> NewProtection
 
 // An erase with a list of which the first words come as words and those after them as bytes. The list's refusals come after
 // those of the state, the lent volume and the settings.
-fn erase(st: State, volume: &mut [u8], list: &[u64], packed: &[u8]) -> Erased
+fn erase(st: State, volume: &mut [u8], list: &[u64], tail: &[u8]) -> Erased
     ensures { λ r. ⌜ result (erasedAnswer r) st (now (volume .exit)) []
-        ≡ step st (now (volume .entry)) (eraseBlocks (wholeList (now (list .entry)) (now (packed .entry)))) ⌝ }
+        ≡ step st (now (volume .entry)) (eraseBlocks (wholeList (now (list .entry)) (now (tail .entry)))) ⌝ }
 {
     let map = st.map;
     let lent = lent_refusal(
@@ -341,19 +341,13 @@ fn erase(st: State, volume: &mut [u8], list: &[u64], packed: &[u8]) -> Erased
         WRITE_STATUS,
     );
     let total = block_count(st.entries, &map);
-    let listed = list_refusal(total, st.protected, list, packed);
+    let listed = list_refusal(total, st.protected, list, tail);
     let refusal = first_of(lent, listed);
     if let Check::Refused(number) = refusal {
         return Erased::Refused(number);
     }
     let end = 2 * st.entries;
-    erase_list(
-        &map[..end],
-        volume,
-        list,
-        packed,
-        erased_byte(st.attributes),
-    );
+    erase_list(&map[..end], volume, list, tail, erased_byte(st.attributes));
     Erased::Success
 }
 

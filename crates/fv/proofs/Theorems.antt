@@ -76,7 +76,7 @@ module _ (state v : List ℕ) (base : ℕ) (long : stateBytes ≤ length state) 
     pub opened-long : stateBytes ≤ length stored
     opened-long = rw (length-append (packed (openVolume v base .state)) (drop stateBytes state)) (omega (arith, packed-length (openVolume v base .state) opened-typed))
 
-    -- so a call with these bytes is the call within with the state that opening answered
+    -- so a call with these bytes is the inner call with the state that opening answered
     pub opened-read : (w : List ℕ) (block offset : ℕ) (buffer answer : List ℕ) → answerBytes ≤ length answer → let r = step (openVolume v base .state) w (read block offset buffer) in
         readCall stored w block offset buffer answer ≡ called (numberOf (r .answer)) (r .buffer ∷ answerStored (valuesOf (r .answer)) answer ∷ [])
     unfolding readCall
@@ -115,7 +115,7 @@ module _ (state v : List ℕ) (block offset : ℕ) (buffer answer : List ℕ) wh
     read-few-answer h = sym (Calls.read-few-answer state v block offset buffer answer long h)
 
     module _ (room : answerBytes ≤ length answer) where
-      -- a refusal of the read within leaves the buffer and the answer's bytes
+      -- a refusal of the inner read leaves the buffer and the answer's bytes
       pub read-refused : (n : ℕ) → step (unpacked state) v (read block offset buffer) .answer ≡ refused n
           → readCall state v block offset buffer answer ≡ called n (buffer ∷ answer ∷ [])
       unfolding bufferOf numberOf valuesOf answerStored

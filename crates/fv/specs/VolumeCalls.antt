@@ -1,5 +1,5 @@
--- The calls on volumes, from C (document 02, m): each is the call within, of read, write and erase over the unpacked state, after "5 for state or answer bytes
--- too few". That "111 for bytes that unpack to no lawful state" comes next, and before the others, is the call within's own order: `read-111`, `write-111`,
+-- The calls on volumes, from C (document 02, m): each is the inner call, of read, write and erase over the unpacked state, after "5 for state or answer bytes
+-- too few". That "111 for bytes that unpack to no lawful state" comes next, and before the others, is the inner call's own order: `read-111`, `write-111`,
 -- `erase-111` (proofs/Theorems).
 use Prim.Native.Nat.{ℕ}
 use mathlib.Core.List.{List, [], _∷_, _++_}

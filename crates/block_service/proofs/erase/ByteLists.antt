@@ -47,34 +47,34 @@ part-ignored s t whole part =
 
 -- ---- a list whose first words come as words
 
-module _ (list packed : List ℕ) where
-  pub whole-length : length (wholeList list packed) ≡ length list + length packed / 8
+module _ (list tail : List ℕ) where
+  pub whole-length : length (wholeList list tail) ≡ length list + length tail / 8
   unfolding wholeList
-  whole-length = length-append list (listWords packed) ∙ ap (λ (n : ℕ). length list + n) (word-number packed)
+  whole-length = length-append list (listWords tail) ∙ ap (λ (n : ℕ). length list + n) (word-number tail)
 
   -- its word i: one of the words, one of the bytes' words, or past its end
-  pub word-listed : (i : ℕ) → i < length list → getD list i 0 ≡ getD (wholeList list packed) i 0
+  pub word-listed : (i : ℕ) → i < length list → getD list i 0 ≡ getD (wholeList list tail) i 0
   unfolding wholeList
-  word-listed i h = sym (List·getD-append list (listWords packed) 0 i h)
+  word-listed i h = sym (List·getD-append list (listWords tail) 0 i h)
 
-  pub word-packed : (i at : ℕ) → length list ≤ i → i - length list < length packed / 8 → at ≡ 8 * (i - length list)
-      → le 8 packed at ≡ getD (wholeList list packed) i 0
+  pub word-tail : (i at : ℕ) → length list ≤ i → i - length list < length tail / 8 → at ≡ 8 * (i - length list)
+      → le 8 tail at ≡ getD (wholeList list tail) i 0
   unfolding wholeList
-  word-packed i at h p q =
+  word-tail i at h p q =
       let e : length list + (i - length list) ≡ i = omega arith in
-      ap (λ (j : ℕ). le 8 packed j) q
-      ∙ sym (byte-word packed (i - length list) p)
-      ∙ sym (getD-append-add list (listWords packed) (i - length list) 0)
-      ∙ ap (λ (j : ℕ). getD (list ++ listWords packed) j 0) e
+      ap (λ (j : ℕ). le 8 tail j) q
+      ∙ sym (byte-word tail (i - length list) p)
+      ∙ sym (getD-append-add list (listWords tail) (i - length list) 0)
+      ∙ ap (λ (j : ℕ). getD (list ++ listWords tail) j 0) e
 
-  pub word-past : (i : ℕ) → length list ≤ i → length packed / 8 ≤ i - length list → 0 ≡ getD (wholeList list packed) i 0
-  word-past i h p = sym (List·getD-eq-default (wholeList list packed) 0 (omega (arith, whole-length)))
+  pub word-past : (i : ℕ) → length list ≤ i → length tail / 8 ≤ i - length list → 0 ≡ getD (wholeList list tail) i 0
+  word-past i h p = sym (List·getD-eq-default (wholeList list tail) 0 (omega (arith, whole-length)))
 
 -- all of it words, or all of it bytes
 pub words-alone : (list : List ℕ) → wholeList list [] ≡ list
 unfolding wholeList listWords longsAt
 words-alone list = append-nil list
 
-pub bytes-alone : (packed : List ℕ) → wholeList [] packed ≡ listWords packed
+pub bytes-alone : (tail : List ℕ) → wholeList [] tail ≡ listWords tail
 unfolding wholeList
-bytes-alone packed = refl
+bytes-alone tail = refl

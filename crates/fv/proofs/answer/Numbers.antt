@@ -1,11 +1,11 @@
--- A refusal's number is neither 0 nor 4, of every call within: so the number that a call returns tells success, short and refusal apart.
-use Prim.Native.Nat.{ℕ, zero, suc, _+_, _-_, _≤_}
+-- A refusal's number is neither 0 nor 4, of every inner call: so the number that a call returns tells success, short and refusal apart.
+use Prim.Native.Nat.{ℕ, zero, suc, _-_, _≤_}
 use mathlib.Core.Path.{_≡_, refl, ap, subst}
 use mathlib.Core.Bool.{Bool, true, false, cond}
 use mathlib.Core.List.{List, [], _∷_}
 use mathlib.Core.Option.{Option, none, some, Option·none-ne-some}
 use native.Mathlib.Omega.{arith}
-use lib.Dec.{eqb, ltb}
+use lib.Dec.{eqb}
 use lib.ListN.{length, getElem?}
 use Rattle.common.specs.Answers.{Answer, refused, success, short, refusalIn}
 use Rattle.common.specs.Refusals.{Row, firstRefusal, unlessRefused}
@@ -17,13 +17,10 @@ use Rattle.block_service.specs.Service.{eraseBlocks, lentRefusals, read, refusa
 use Rattle.volume.specs.declared.state.State.{State}
 use Rattle.block_service.proofs.Theorems.{refused-exactly}
 use Rattle.sections.specs.Append.{appendOf, appendRefusals, usedAfter}
-use Rattle.sections.specs.Header.{headAt}
 use Rattle.sections.specs.Search.{Section, firstAnswer, firstFault, ofType, partAnswer, searchFirstOf, searchOf, sections}
-use Rattle.sections.specs.Walk.{Trace, done, fault, section, afterPadding, aligned, andThen, firstNonzero, meet, part, siblings, streamLimit, streamWalk, walk, zeros}
-use Rattle.sections.specs.declared.header.Head.{Head}
-use Rattle.sections.specs.declared.header.Head.the-variants.{Fault, Closed, Open}
+use Rattle.sections.specs.Walk.{Trace, done, fault, section, streamWalk}
 use Rattle.sections.specs.declared.header.Mode.{Mode}
-use Rattle.sections.proofs.header.Cases.{fault-range}
+use Rattle.sections.proofs.walk.FaultNumbers.{Numbered, fault-number, numbered-stream}
 use Rattle.fv.specs.Called.{IsRefusal}
 
 number-of : (a b : ℕ) → refused a ≡ refused b → a ≡ b
@@ -106,68 +103,7 @@ entry-number v number n = go (openVolume v 0 .answer) refl
 
 -- ---- the calls on section streams
 
--- every fault of a walk has a number from 201 on
-abbrev Faults : Trace → Type 0
-Faults done = Unit {0}
-Faults (fault n start e) = 201 ≤ n
-Faults (section t f e rest) = Faults rest
-
-faults-then : (x y : Trace) → Faults x → Faults y → Faults (andThen x y)
-unfolding andThen
-faults-then done y p q = q
-faults-then (fault n start e) y p q = p
-faults-then (section t f e rest) y p q = faults-then rest y p q
-
-faults-padding : (s : List ℕ) (base e : ℕ) (rest : ℕ → Trace) → Faults (rest (aligned e)) → Faults (afterPadding s base e rest)
-unfolding afterPadding
-faults-padding s base e rest p = go (zeros s e (aligned e - e))
-  where
-    go : (b : Bool) → Faults (cond b (rest (aligned e)) (fault 207 (base + firstNonzero s e (aligned e - e)) (base + length s)))
-    go true = p
-    go false = omega arith
-
 module _ (mode : Mode) where
-  module _ (n : ℕ) (inner : List ℕ → ℕ → Trace) (below : (l : List ℕ) (b : ℕ) → Faults (inner l b)) (s : List ℕ) (base : ℕ) where
-    faults-meet : (at : ℕ) (rest : ℕ → Trace) (h : Head) → headAt mode s at ≡ h → ((next : ℕ) → Faults (rest next)) → Faults (meet n inner s base at h rest)
-    unfolding meet
-    faults-meet at rest (Fault m) p q = fault-range mode s at m p .0
-    faults-meet at rest (Closed t first e) p q = faults-padding s base e rest (q (aligned e))
-    faults-meet at rest (Open t first f e) p q = go (eqb n 0)
-      where
-        go : (b : Bool) → Faults (cond b (fault 205 (base + at) (base + length s))
-            (section t (base + first) (base + e) (andThen (inner (part f e s) (base + f)) (afterPadding s base e rest))))
-        go true = omega arith
-        go false = faults-then (inner (part f e s) (base + f)) (afterPadding s base e rest) (below (part f e s) (base + f)) (faults-padding s base e rest (q (aligned e)))
-
-    faults-siblings : (fuel at : ℕ) → Faults (siblings mode n inner fuel s base at)
-    unfolding siblings
-    faults-siblings zero at = tt
-    faults-siblings (suc fuel) at = go (ltb at (length s)) (faults-meet at (siblings mode n inner fuel s base) (headAt mode s at) refl (λ next. faults-siblings fuel next))
-      where
-        go : (b : Bool) → Faults (meet n inner s base at (headAt mode s at) (siblings mode n inner fuel s base))
-            → Faults (cond b (meet n inner s base at (headAt mode s at) (siblings mode n inner fuel s base)) done)
-        go true p = p
-        go false p = tt
-
-  faults-walk : (n : ℕ) (s : List ℕ) (base : ℕ) → Faults (walk mode n s base)
-  unfolding walk
-  faults-walk zero s base = faults-siblings 0 (λ l b. done) (λ l b. tt) s base (length s) 0
-  faults-walk (suc n) s base = faults-siblings (suc n) (walk mode n) (faults-walk n) s base (length s) 0
-
-  faults-stream : (s : List ℕ) → Faults (streamWalk mode s)
-  unfolding streamWalk
-  faults-stream s = go (ltb (streamLimit mode) (length s))
-    where
-      go : (b : Bool) → Faults (cond b (fault 206 0 (length s)) (walk mode 7 s 0))
-      go true = omega arith
-      go false = faults-walk 7 s 0
-
-  fault-number : (x : Trace) (n : ℕ) → Faults x → firstFault x ≡ some n → 201 ≤ n
-  unfolding firstFault
-  fault-number done n p e = absurd (Option·none-ne-some n e)
-  fault-number (fault m start f) n p e = let z : m ≡ n = cc in omega arith
-  fault-number (section t f e rest) n p q = fault-number rest n p q
-
   not-there : (o : Option Section) (n : ℕ) → partAnswer o ≡ refused n → IsRefusal n
   not-there none n e = subst IsRefusal (number-of 14 n e) (large 14 (omega arith))
   not-there (some x) n e = absurd (answered _ n e)
@@ -182,10 +118,10 @@ module _ (mode : Mode) where
       go : (o : Option ℕ) → firstFault (streamWalk mode s) ≡ o → unlessRefused refused o (partAnswer found) ≡ refused n → IsRefusal n
       go none p e = not-there found n e
       go (some m) p e =
-          let h = fault-number (streamWalk mode s) m (faults-stream s) p in
+          let h = fault-number mode s m p in
           subst IsRefusal (number-of m n e) (large m (omega arith))
 
-  first-answer : (t n : ℕ) (x : Trace) → Faults x → firstAnswer t x ≡ refused n → IsRefusal n
+  first-answer : (t n : ℕ) (x : Trace) → Numbered x → firstAnswer t x ≡ refused n → IsRefusal n
   unfolding firstAnswer
   first-answer t n done p e = subst IsRefusal (number-of 14 n e) (large 14 (omega arith))
   first-answer t n (fault m start f) p e = subst IsRefusal (number-of m n e) (large m (omega arith))
@@ -196,7 +132,7 @@ module _ (mode : Mode) where
       go false later r = later r
 
   pub first-number-of : (s : List ℕ) (t n : ℕ) → searchFirstOf mode s t ≡ refused n → IsRefusal n
-  first-number-of s t n e = first-answer t n (streamWalk mode s) (faults-stream s) e
+  first-number-of s t n e = first-answer t n (streamWalk mode s) (numbered-stream mode s) e
 
   pub append-number : (room used t m n : ℕ) → appendOf mode room used t m ≡ refused n → IsRefusal n
   unfolding appendOf appendRefusals

@@ -1,4 +1,4 @@
--- Laws of the calls on section streams, in the form in which the code meets them: bytes too few, and otherwise what the call within came to.
+-- Laws of the calls on section streams, in the form in which the code meets them: bytes too few, and otherwise what the inner call came to.
 use Prim.Native.Nat.{ℕ, _≤_, _<_}
 use mathlib.Core.Path.{_≡_}
 use mathlib.Core.List.{List, [], _∷_}

@@ -16,10 +16,11 @@ use Rattle.common.specs.Refusals.{unlessRefused}
 use Rattle.sections.specs.Header.{grown, headerLength, typeAt}
 use Rattle.sections.specs.Partial.{bytesFor, contentsFields}
 use Rattle.sections.specs.Search.{Section, sections, firstFault, ofType, partAnswer, searchOf}
-use Rattle.sections.specs.Walk.{Trace, done, fault, section, walk, streamLimit, streamWalk}
+use Rattle.sections.specs.Walk.{Trace, done, fault, section, streamLimit, streamWalk}
 use Rattle.sections.specs.declared.header.Mode.{Mode}
 use Rattle.sections.proofs.header.Decided.{own-fields}
 use Rattle.sections.proofs.header.Sizes.{header-range}
+use Rattle.sections.proofs.walk.FaultNumbers as Numbers
 use Rattle.receiver.specs.Received.{EndsIn, here, later, fileOf, foundAfter, foundFault, foundOf, faultNumber, countedAnswer, receivedOf, withCount}
 use Rattle.receiver.specs.Receiver.{noTally, announced, fed, sound, portionOf, portionsOf, finishAt, finishOf, foundIn, faultOf}
 use Rattle.receiver.specs.declared.place.Phase.{Phase}
@@ -28,7 +29,6 @@ use Rattle.receiver.specs.declared.receiver.Receiver.{Receiver}
 use Rattle.receiver.specs.declared.tally.Tally.{Tally}
 use Rattle.receiver.proofs.receiver.Fed.{fed-refused}
 use Rattle.receiver.proofs.receiver.Finishing as F
-use Rattle.receiver.proofs.receiver.Late.{Behind, behind-walk}
 use Rattle.receiver.proofs.receiver.OneByte.{Reads}
 use Rattle.receiver.proofs.receiver.Portions as R
 use Rattle.receiver.proofs.receiver.Portions.{Comes, comes, fed-append, nothing, found-more, found-first, none-found, reads-file}
@@ -219,20 +219,8 @@ module _ (mode : Mode) (file : List ℕ) where
       go false p q = absurd (nothing q)
 
   -- its number is one of 01's
-  behind-number : (low n start e : ℕ) {x : Trace} → Behind low x → EndsIn n start e x → (201 ≤ n) × (n ≤ 207)
-  behind-number low n start e b here = (b .2, b .3)
-  behind-number low n start e b (later x) = behind-number low n start e b x
-
-  one : (m s f : ℕ) {n start e : ℕ} → EndsIn n start e (fault m s f) → n ≡ m
-  one m s f here = refl
-
   pub fault-number : (n start e : ℕ) → EndsIn n start e (streamWalk mode file) → (201 ≤ n) × (n ≤ 207)
-  unfolding streamWalk
-  fault-number n start e = go (ltb (streamLimit mode) (length file))
-    where
-      go : (b : Bool) → EndsIn n start e (cond b (fault 206 0 (length file)) (walk mode 7 file 0)) → (201 ≤ n) × (n ≤ 207)
-      go true x = let z = one 206 0 (length file) x in (omega arith, omega arith)
-      go false x = behind-number 0 n start e (behind-walk mode 7 file 0) x
+  fault-number n start e ends = Numbers.fault-number mode file n (ends-first n start e ends)
 
   found-ends : (came n : ℕ) (x : Trace) → foundFault mode file came x ≡ some n → (start : ℕ) × (e : ℕ) × EndsIn n start e x
   unfolding foundFault

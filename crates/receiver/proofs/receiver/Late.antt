@@ -21,10 +21,10 @@ use Rattle.sections.proofs.walk.Padding.{first-nonzero}
 use Rattle.sections.proofs.walk.Starts.{walkFrom}
 use Rattle.receiver.specs.Received.{foundAfter, foundFault}
 
--- the fault of a walk, if it has one, stands at byte `low` or behind it, is found with or after that byte, and has one of the numbers of 01
+-- the fault of a walk, if it has one, stands at byte `low` or behind it, and is found with or after that byte
 abbrev pub Behind : (low : ℕ) → Trace → Type 0
 Behind low done = Unit {0}
-Behind low (fault n start e) = (low ≤ start) × (n ≡ 206 → ⊥) × (201 ≤ n) × (n ≤ 207)
+Behind low (fault n start e) = (low ≤ start) × (n ≡ 206 → ⊥)
 Behind low (section t f e rest) = Behind low rest
 
 pub behind-then : (low : ℕ) (x y : Trace) → Behind low x → Behind low y → Behind low (andThen x y)
@@ -35,7 +35,7 @@ behind-then low (section t f e rest) y p q = behind-then low rest y p q
 
 pub behind-less : (low low′ : ℕ) (x : Trace) → low′ ≤ low → Behind low x → Behind low′ x
 behind-less low low′ done h p = tt
-behind-less low low′ (fault n start e) h p = let q = p .0 in (omega arith, p .1, p .2, p .3)
+behind-less low low′ (fault n start e) h p = let q = p .0 in (omega arith, p .1)
 behind-less low low′ (section t f e rest) h p = behind-less low low′ rest h p
 
 pub behind-padding : (low : ℕ) (s : List ℕ) (base e : ℕ) (rest : ℕ → Trace) → low ≤ base + e → Behind low (rest (aligned e)) → Behind low (afterPadding s base e rest)
@@ -44,14 +44,14 @@ behind-padding low s base e rest h p = go (zeros s e (aligned e - e)) refl
   where
     go : (b : Bool) → zeros s e (aligned e - e) ≡ b → Behind low (cond b (rest (aligned e)) (fault 207 (base + firstNonzero s e (aligned e - e)) (base + length s)))
     go true z = p
-    go false z = let n = first-nonzero s e (aligned e - e) z .0 in (omega arith, λ z. omega arith, omega arith, omega arith)
+    go false z = let n = first-nonzero s e (aligned e - e) z .0 in (omega arith, λ z. omega arith)
 
 module _ (mode : Mode) where
   module _ (n : ℕ) (inner : List ℕ → ℕ → Trace) (below : (l : List ℕ) (b : ℕ) → Behind b (inner l b)) (s : List ℕ) (base : ℕ) where
     behind-meet : (at : ℕ) (rest : ℕ → Trace) (h : Head) → headAt mode s at ≡ h → ((next : ℕ) → at ≤ next → Behind (base + next) (rest next))
         → Behind (base + at) (meet n inner s base at h rest)
     unfolding meet
-    behind-meet at rest (Fault m) p q = let r = fault-range mode s at m p in (omega arith, λ z. omega arith, omega arith, omega arith)
+    behind-meet at rest (Fault m) p q = let r = fault-range mode s at m p in (omega arith, λ z. omega arith)
     behind-meet at rest (Closed t first e) p q =
         let w = closed-within mode s at p in
         behind-padding (base + at) s base e rest (omega arith)
@@ -60,7 +60,7 @@ module _ (mode : Mode) where
       where
         go : (b : Bool) → Behind (base + at) (cond b (fault 205 (base + at) (base + length s))
             (section t (base + first) (base + e) (andThen (inner (part f e s) (base + f)) (afterPadding s base e rest))))
-        go true = (omega arith, λ z. omega arith, omega arith, omega arith)
+        go true = (omega arith, λ z. omega arith)
         go false =
             let w = open-within mode s at p in
             behind-then (base + at) (inner (part f e s) (base + f)) (afterPadding s base e rest)

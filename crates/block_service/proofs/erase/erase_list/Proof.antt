@@ -15,19 +15,19 @@ use Rattle.block_service.proofs.erase.erase_list.Statement.{statement}
 use Rattle.block_service.proofs.erase.erase_list.Tie as tie
 
 abbrev Inv-loop : tie.InvT-loop
-Inv-loop words volume₀ list packed value n i₀ volume i =
-    (i ≤ n) × (goodList (blocks words) (drop i (wholeList list packed)) ≡ true) × (length volume ≡ length volume₀)
-    × (edit (listErased words (drop i (wholeList list packed)) value) 0 volume ≡ edit (listErased words (wholeList list packed) value) 0 volume₀)
+Inv-loop words volume₀ list tail value n i₀ volume i =
+    (i ≤ n) × (goodList (blocks words) (drop i (wholeList list tail)) ≡ true) × (length volume ≡ length volume₀)
+    × (edit (listErased words (drop i (wholeList list tail)) value) 0 volume ≡ edit (listErased words (wholeList list tail) value) 0 volume₀)
 
 abbrev μ-loop : tie.MeasureT-loop
-μ-loop words volume₀ list packed value n i₀ volume i = n - i
+μ-loop words volume₀ list tail value n i₀ volume i = n - i
 
 -- a turn's place, what was lent, and the words of the list
 abbrev entry : tie.At-loop Inv-loop μ-loop → tie.Start Inv-loop μ-loop
 entry c = c .before .before .before .before .before .before
 
 abbrev words : tie.At-loop Inv-loop μ-loop → List ℕ
-words c = wholeList (now (entry c .args .list)) (now (entry c .args .packed))
+words c = wholeList (now (entry c .args .list)) (now (entry c .args .tail))
 
 abbrev read : tie.Else1 Inv-loop μ-loop → tie.After-word-at Inv-loop μ-loop
 read c = c .before

@@ -19,19 +19,19 @@ use Rattle.block_service.proofs.erase.list_refusal.Statement.{statement
 use Rattle.block_service.proofs.erase.list_refusal.Tie as tie
 
 abbrev Inv-loop : tie.InvT-loop
-Inv-loop total protected list packed n reached₀ i₀ reached i =
-    (i ≤ length (wholeList list packed)) × (goodList total (drop i (wholeList list packed)) ≡ goodList total (wholeList list packed))
-    × ((reached || reaches protected (drop i (wholeList list packed))) ≡ reaches protected (wholeList list packed))
+Inv-loop total protected list tail n reached₀ i₀ reached i =
+    (i ≤ length (wholeList list tail)) × (goodList total (drop i (wholeList list tail)) ≡ goodList total (wholeList list tail))
+    × ((reached || reaches protected (drop i (wholeList list tail))) ≡ reaches protected (wholeList list tail))
 
 abbrev μ-loop : tie.MeasureT-loop
-μ-loop total protected list packed n reached₀ i₀ reached i = n - i
+μ-loop total protected list tail n reached₀ i₀ reached i = n - i
 
 -- the places: where the loop stood, where its word was read, and where a pair was tested
 abbrev entry : tie.At-loop Inv-loop μ-loop → tie.Start Inv-loop μ-loop
 entry c = c .before .before .before .before
 
 abbrev words : tie.At-loop Inv-loop μ-loop → List ℕ
-words c = wholeList (now (entry c .args .list)) (now (entry c .args .packed))
+words c = wholeList (now (entry c .args .list)) (now (entry c .args .tail))
 
 abbrev turn : tie.After-word-at Inv-loop μ-loop → tie.At-loop Inv-loop μ-loop
 turn c = c .before .before
@@ -80,7 +80,7 @@ word-count-requires : tie.Need-word-count-requires Inv-loop μ-loop
 word-count-requires c κs = search needs
 
 add-loop : tie.Need-add-loop Inv-loop μ-loop
-add-loop c = omega (arith, c .before .word-count .ensures, whole-length (now (entry c .args .list)) (now (entry c .args .packed)))
+add-loop c = omega (arith, c .before .word-count .ensures, whole-length (now (entry c .args .list)) (now (entry c .args .tail)))
 
 word-at-requires : tie.Need-word-at-requires Inv-loop μ-loop
 word-at-requires c κs = search needs

@@ -2,7 +2,7 @@
 use mathlib.Core.Path.{_∙_}
 use native.Mathlib.Omega.{arith}
 use borrow.Author.Needs.{needs}
-use Rattle.block_service.proofs.erase.ByteLists.{word-listed, word-packed, word-past}
+use Rattle.block_service.proofs.erase.ByteLists.{word-listed, word-tail, word-past}
 use Rattle.block_service.proofs.erase.word_at.Statement.{statement}
 use Rattle.block_service.proofs.erase.word_at.Tie as tie
 
@@ -22,7 +22,7 @@ u64-at-requires : tie.Need-u64-at-requires
 u64-at-requires c κs = search needs
 
 returns-2 : tie.Need-returns-2
-returns-2 c = c .u64-at .ensures ∙ word-packed _ _ _ _ (search needs) (search needs) (omega arith)
+returns-2 c = c .u64-at .ensures ∙ word-tail _ _ _ _ (search needs) (search needs) (omega arith)
 
 returns-3 : tie.Need-returns-3
 returns-3 c = word-past _ _ _ (search needs) (search needs)

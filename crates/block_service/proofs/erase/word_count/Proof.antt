@@ -10,7 +10,7 @@ add-result : tie.Need-add-result
 add-result c = search needs
 
 returns : tie.Need-returns
-returns c = omega (arith, whole-length (now (c .args .list)) (now (c .args .packed)))
+returns c = omega (arith, whole-length (now (c .args .list)) (now (c .args .tail)))
 
 pub word-count-spec : {M : Type 1} → statement M
 word-count-spec = tie.close (tie.spec add-result returns)

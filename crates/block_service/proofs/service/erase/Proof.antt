@@ -41,7 +41,7 @@ abbrev state : tie.After-list-refusal → State
 state c = entry (first c) .args .st
 
 abbrev words : tie.After-list-refusal → List ℕ
-words c = wholeList (now (entry (first c) .args .list)) (now (entry (first c) .args .packed))
+words c = wholeList (now (entry (first c) .args .list)) (now (entry (first c) .args .tail))
 
 abbrev lentRows : tie.After-list-refusal → List Row
 lentRows c = lentRefusals (state c) (length (now (entry (first c) .args .volume))) writeStatus

@@ -10,8 +10,7 @@ succeeded-requires c κs = search needs
 
 returns : tie.Need-returns
 unfolding numberOf valuesOf answerStored
-returns c =
-    c .succeeded .ensures
+returns c = c .succeeded .ensures
 
 pub counted-spec : {M : Type 1} → statement M
 counted-spec = tie.close (tie.spec succeeded-requires returns)

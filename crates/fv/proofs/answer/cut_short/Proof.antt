@@ -7,8 +7,7 @@ use Rattle.fv.proofs.answer.cut_short.Tie as tie
 
 returns : tie.Need-returns
 unfolding numberOf valuesOf answerStored
-returns c =
-    (refl, λ room. refl)
+returns c = (refl, λ room. refl)
 
 pub cut-short-spec : {M : Type 1} → statement M
 cut-short-spec = tie.close (tie.spec returns)

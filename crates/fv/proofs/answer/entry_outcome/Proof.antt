@@ -31,13 +31,11 @@ refusal-requires c κs = search needs
 
 returns : tie.Need-returns
 unfolding entryAnswer entryWords
-returns c =
-    rw (c .before .before .entry .given .1) (c .succeeded .ensures)
+returns c = rw (c .before .before .entry .given .1) (c .succeeded .ensures)
 
 returns-2 : tie.Need-returns-2
 unfolding entryAnswer entryWords
-returns-2 c =
-    rw (c .before .before .entry2 .given .1) (c .refusal .ensures)
+returns-2 c = rw (c .before .before .entry2 .given .1) (c .refusal .ensures)
 
 pub entry-outcome-spec : {M : Type 1} → statement M
 entry-outcome-spec =

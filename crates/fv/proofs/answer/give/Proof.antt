@@ -11,12 +11,10 @@ same-length : tie.Need-same-length
 same-length c = search needs
 
 returns : tie.Need-returns
-returns c =
-    (refl, rw (c .before .before .before .before .if1 .taken) (c .before .before .store-two .ensures))
+returns c = (refl, rw (c .before .before .before .before .if1 .taken) (c .before .before .store-two .ensures))
 
 returns-2 : tie.Need-returns-2
-returns-2 c =
-    (refl, rw (c .if1 .left))
+returns-2 c = (refl, rw (c .if1 .left))
 
 pub give-spec : {M : Type 1} → statement M
 give-spec = tie.close (tie.spec store-two-requires same-length returns returns-2)

@@ -24,18 +24,15 @@ refusal-requires c κs = search needs
 
 returns : tie.Need-returns
 unfolding movedAnswer
-returns c =
-    rw (c .before .before .moved .given .1) (c .counted .ensures)
+returns c = rw (c .before .before .moved .given .1) (c .counted .ensures)
 
 returns-2 : tie.Need-returns-2
 unfolding movedAnswer
-returns-2 c =
-    rw (c .before .before .moved2 .given .1) (c .cut-short .ensures)
+returns-2 c = rw (c .before .before .moved2 .given .1) (c .cut-short .ensures)
 
 returns-3 : tie.Need-returns-3
 unfolding movedAnswer
-returns-3 c =
-    rw (c .before .before .moved3 .given .1) (c .refusal .ensures)
+returns-3 c = rw (c .before .before .moved3 .given .1) (c .refusal .ensures)
 
 pub moved-outcome-spec : {M : Type 1} → statement M
 moved-outcome-spec =

@@ -7,8 +7,7 @@ use Rattle.fv.proofs.answer.refusal.Tie as tie
 
 returns : tie.Need-returns
 unfolding numberOf valuesOf answerStored
-returns c =
-    (refl, λ room. refl)
+returns c = (refl, λ room. refl)
 
 pub refusal-spec : {M : Type 1} → statement M
 refusal-spec = tie.close (tie.spec returns)

@@ -7,8 +7,7 @@ use Rattle.fv.proofs.answer.succeeded.Tie as tie
 
 returns : tie.Need-returns
 unfolding numberOf valuesOf answerStored
-returns c =
-    (refl, λ room. refl)
+returns c = (refl, λ room. refl)
 
 pub succeeded-spec : {M : Type 1} → statement M
 succeeded-spec = tie.close (tie.spec returns)

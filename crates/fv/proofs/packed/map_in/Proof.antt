@@ -13,16 +13,13 @@ use Rattle.fv.proofs.packed.map_in.Statement.{statement}
 use Rattle.fv.proofs.packed.map_in.Tie as tie
 
 abbrev Inv-loop : tie.InvT-loop
-Inv-loop s map₀ i₀ map i =
-    (i ≤ 64) × (length map ≡ 64) × (take i map ++ drop i (wordsAt 64 s 48) ≡ wordsAt 64 s 48)
+Inv-loop s map₀ i₀ map i = (i ≤ 64) × (length map ≡ 64) × (take i map ++ drop i (wordsAt 64 s 48) ≡ wordsAt 64 s 48)
 
 abbrev μ-loop : tie.MeasureT-loop
-μ-loop s map₀ i₀ map i =
-    64 - i
+μ-loop s map₀ i₀ map i = 64 - i
 
 loop-holds : tie.Need-loop-holds Inv-loop μ-loop
-loop-holds c =
-    (search needs, refl, refl)
+loop-holds c = (search needs, refl, refl)
 
 mul-u32-at : tie.Need-mul-u32-at Inv-loop μ-loop
 mul-u32-at c = search needs

@@ -7,6 +7,25 @@ use borrow.Author.Needs.{needs}
 use Rattle.fv.proofs.packed.pack.Statement.{statement}
 use Rattle.fv.proofs.packed.pack.Tie as tie
 
+-- the places after each store, one from the next, back to the entry
+abbrev mapped : tie.After-copy → tie.After-store-map
+mapped c = c .before .before .before .before
+
+abbrev counted : tie.After-store-map → tie.After-store-pair2
+counted c = c .before .before .before .before .before
+
+abbrev described : tie.After-store-pair2 → tie.After-store-pair
+described c = c .before .before .before
+
+abbrev measured : tie.After-store-pair → tie.After-store-longs
+measured c = c .before .before .before .before .before
+
+abbrev named : tie.After-store-longs → tie.After-store-bytes
+named c = c .before .before .before
+
+abbrev entry : tie.After-store-pair2 → tie.Start
+entry c = named (measured (described c)) .before .before .before .before .before
+
 -- the arrays of a state
 guid-length : (c : tie.Start) → length (c .args .st .guid) ≡ 16
 guid-length c = search needs
@@ -48,13 +67,13 @@ store-pair-requires-2 : tie.Need-store-pair-requires-2
 store-pair-requires-2 c κs = search needs
 
 slice-aggregate-store-map : tie.Need-slice-aggregate-store-map
-slice-aggregate-store-map c = sym (map-length (c .before .before .before .before .before .before .before .before .before .before .before .before .before .before .before .before .before .before .before))
+slice-aggregate-store-map c = sym (map-length (entry (c .before .before .before)))
 
 slice-aggregate-store-map-2 : tie.Need-slice-aggregate-store-map-2
 slice-aggregate-store-map-2 c = search needs
 
 store-map-requires : tie.Need-store-map-requires
-store-map-requires c κs = map-length (c .before .before .before .before .before .before .before .before .before .before .before .before .before .before .before .before .before .before .before .before)
+store-map-requires c κs = map-length (entry (c .before .before .before .before))
 
 slice-aggregate-copy : tie.Need-slice-aggregate-copy
 slice-aggregate-copy c = search needs
@@ -67,12 +86,15 @@ same-length c = search needs
 
 returns : tie.Need-returns
 returns c =
-    let start = c .before .before .before .before .before .before .before .before .before .before .before .before .before .before .before .before .before .before .before .before .before .before .before .before .before .before .before in
-    let st = start .args .st in
-    let g = guid-length start in
-    let stored = pack-stored st (replicate 304 0) g _ _ _ _ _ (c .before .before .before .before .before .before .before .before .before .before .before .before .before .before .before .before .before .before .before .before .before .before .store-bytes .ensures) (c .before .before .before .before .before .before .before .before .before .before .before .before .before .before .before .before .before .before .before .store-longs .ensures) (c .before .before .before .before .before .before .before .before .before .before .before .before .before .before .store-pair .ensures)
-    (c .before .before .before .before .before .before .before .before .before .before .before .store-pair2 .ensures) (c .before .before .before .before .before .before .store-map .ensures) in
-    pack-done st (replicate 304 0) _ (now (start .args .room)) _ refl g (map-length start) stored (c .before .before .copy .ensures .1)
+    let copied = c .before .before in
+    let m = mapped copied in
+    let k = counted m in
+    let d = described k in
+    let l = measured d in
+    let a = entry k .args in
+    let g = guid-length (entry k) in
+    let stored = pack-stored (a .st) (replicate 304 0) g _ _ _ _ _ (named l .store-bytes .ensures) (l .store-longs .ensures) (d .store-pair .ensures) (k .store-pair2 .ensures) (m .store-map .ensures) in
+    pack-done (a .st) (replicate 304 0) _ (now (a .room)) _ refl g (map-length (entry k)) stored (copied .copy .ensures .1)
 
 pub pack-spec : {M : Type 1} → statement M
 pack-spec =

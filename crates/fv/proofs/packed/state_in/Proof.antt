@@ -38,16 +38,23 @@ map-in-requires c κs = search needs
 
 returns : tie.Need-returns
 unfolding unpacked stateWith
-returns c = λ i. record {
-  guid = (c .before .before .before .before .before .before .before .before .guid-in .ensures) i;
-  length = (c .before .before .before .before .before .before .before .u64-at .ensures) i;
-  base = (c .before .before .before .before .before .before .u64-at2 .ensures) i;
-  attributes = (c .before .before .before .before .before .u32-at .ensures) i;
-  edition = (c .before .before .before .before .u32-at2 .ensures) i;
-  protected = (c .before .before .wide .ensures .0 ∙ c .before .before .before .u32-at3 .ensures) i;
-  entries = (c .before .u32-at4 .ensures) i;
-  map = (c .map-in .ensures) i;
-}
+returns c =
+    let counted = c .before in
+    let widened = counted .before in
+    let marked = widened .before in
+    let edition = marked .before in
+    let attributes = edition .before in
+    let based = attributes .before in
+    let measured = based .before in λ i. record {
+      guid = (measured .before .guid-in .ensures) i;
+      length = (measured .u64-at .ensures) i;
+      base = (based .u64-at2 .ensures) i;
+      attributes = (attributes .u32-at .ensures) i;
+      edition = (edition .u32-at2 .ensures) i;
+      protected = (widened .wide .ensures .0 ∙ marked .u32-at3 .ensures) i;
+      entries = (counted .u32-at4 .ensures) i;
+      map = (c .map-in .ensures) i;
+    }
 
 pub state-in-spec : {M : Type 1} → statement M
 state-in-spec =

@@ -14,8 +14,7 @@ same-length : tie.Need-same-length
 same-length c = search needs
 
 returns : tie.Need-returns
-returns c =
-    rw (c .before .before .store2 .ensures, c .before .before .before .before .before .before .store .ensures)
+returns c = rw (c .before .before .store2 .ensures, c .before .before .before .before .before .before .store .ensures)
 
 pub store-longs-spec : {M : Type 1} → statement M
 store-longs-spec = tie.close (tie.spec store-requires store-requires-2 same-length returns)

@@ -13,16 +13,13 @@ use Rattle.fv.proofs.packed.store_map.Statement.{statement}
 use Rattle.fv.proofs.packed.store_map.Tie as tie
 
 abbrev Inv-loop : tie.InvT-loop
-Inv-loop map s₀ i₀ s i =
-    (i ≤ length map) × (length s ≡ length s₀) × (sets s₀ 48 (wordsBytes map ++ []) ≡ sets s (48 + 4 * i) (wordsBytes (drop i map) ++ []))
+Inv-loop map s₀ i₀ s i = (i ≤ length map) × (length s ≡ length s₀) × (sets s₀ 48 (wordsBytes map ++ []) ≡ sets s (48 + 4 * i) (wordsBytes (drop i map) ++ []))
 
 abbrev μ-loop : tie.MeasureT-loop
-μ-loop map s₀ i₀ s i =
-    length map - i
+μ-loop map s₀ i₀ s i = length map - i
 
 loop-holds : tie.Need-loop-holds Inv-loop μ-loop
-loop-holds c =
-    (search needs, refl, refl)
+loop-holds c = (search needs, refl, refl)
 
 mul-store : tie.Need-mul-store Inv-loop μ-loop
 mul-store c = search needs
@@ -61,8 +58,7 @@ loop-again c =
     )
 
 same-length : tie.Need-same-length Inv-loop μ-loop
-same-length c =
-    c .before .loop .inv .1
+same-length c = c .before .loop .inv .1
 
 returns : tie.Need-returns Inv-loop μ-loop
 returns c =

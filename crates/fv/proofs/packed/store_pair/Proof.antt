@@ -16,9 +16,7 @@ same-length : tie.Need-same-length
 same-length c = search needs
 
 returns : tie.Need-returns
-returns c =
-    rw (c .before .before .store2 .ensures, c .before .before .before .before .before .before .store .ensures)
+returns c = rw (c .before .before .store2 .ensures, c .before .before .before .before .before .before .store .ensures)
 
 pub store-pair-spec : {M : Type 1} → statement M
-store-pair-spec =
-    tie.close (tie.spec store-requires add-store store-requires-2 same-length returns)
+store-pair-spec = tie.close (tie.spec store-requires add-store store-requires-2 same-length returns)

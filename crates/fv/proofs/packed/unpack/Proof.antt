@@ -13,15 +13,13 @@ use Rattle.fv.proofs.packed.unpack.Statement.{statement}
 use Rattle.fv.proofs.packed.unpack.Tie as tie
 
 slice-aggregate-copy : tie.Need-slice-aggregate-copy
-slice-aggregate-copy c =
-    sym (length-take-le 304 (now (c .before .before .args .state)) (c .before .before .pre))
+slice-aggregate-copy c = sym (length-take-le 304 (now (c .before .before .args .state)) (c .before .before .pre))
 
 slice-aggregate-copy-2 : tie.Need-slice-aggregate-copy-2
 slice-aggregate-copy-2 c = search needs
 
 copy-requires : tie.Need-copy-requires
-copy-requires c κs =
-    omega (arith, length-take-le 304 (now (c .before .before .before .args .state)) (c .before .before .before .pre))
+copy-requires c κs = omega (arith, length-take-le 304 (now (c .before .before .before .args .state)) (c .before .before .before .pre))
 
 slice-aggregate-state-in : tie.Need-slice-aggregate-state-in
 slice-aggregate-state-in c = search needs

@@ -6,8 +6,7 @@ use Rattle.fv.proofs.section_calls.fv_append.Statement.{statement}
 use Rattle.fv.proofs.section_calls.fv_append.Tie as tie
 
 returns : tie.Need-returns
-returns c =
-    append-few _ _ _ _ _ _ (search needs)
+returns c = append-few _ _ _ _ _ _ (search needs)
 
 mode-of-requires : tie.Need-mode-of-requires
 mode-of-requires c κs = search needs
@@ -29,8 +28,11 @@ same-length-2 c = search needs
 
 returns-2 : tie.Need-returns-2
 returns-2 c =
-    append-done _ _ _ _ _ _ (search needs) _ _ _ _ (rw (c .before .before .before .before .before .before .before .before .before .mode-of .ensures) at (c .before .before .before .before .before .before .before .append .ensures))
-    (given (c .before .before .before .before .appended-outcome .result) _ _ _ _ (c .before .before .before .before .appended-outcome .ensures) (c .before .before .give .ensures))
+    let gave = c .before .before in
+    let told = gave .before .before in
+    let appended = told .before .before .before in
+    append-done _ _ _ _ _ _ (search needs) _ _ _ _ (rw (appended .before .before .mode-of .ensures) at (appended .append .ensures))
+    (given (told .appended-outcome .result) _ _ _ _ (told .appended-outcome .ensures) (gave .give .ensures))
 
 pub fv-append-spec : {M : Type 1} → statement M
 fv-append-spec =

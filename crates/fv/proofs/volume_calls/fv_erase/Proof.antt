@@ -5,8 +5,7 @@ use Rattle.fv.proofs.volume_calls.fv_erase.Statement.{statement}
 use Rattle.fv.proofs.volume_calls.fv_erase.Tie as tie
 
 returns : tie.Need-returns
-returns c =
-    erase-few _ _ _ (search needs)
+returns c = erase-few _ _ _ (search needs)
 
 unpack-requires : tie.Need-unpack-requires
 unpack-requires c κs = search needs
@@ -28,14 +27,17 @@ same-length c = search needs
 
 returns-2 : tie.Need-returns-2
 returns-2 c =
-    erase-done _ _ _ (search needs) _ _ _ (rw (c .before .before .before .before .before .before .unpack .ensures) at (c .before .before .before .before .erase-byte-list .ensures)) (c .enum-told .given .1)
+    let erased = c .before .before .before .before in
+    erase-done _ _ _ (search needs) _ _ _ (rw (erased .before .before .unpack .ensures) at (erased .erase-byte-list .ensures)) (c .enum-told .given .1)
 
 same-length-2 : tie.Need-same-length-2
 same-length-2 c = search needs
 
 returns-3 : tie.Need-returns-3
 returns-3 c =
-    erase-refused _ _ _ (search needs) _ _ _ (rw (c .before .before .before .before .before .before .before .unpack .ensures) at (c .before .before .before .before .before .erase-byte-list .ensures)) _ (c .before .erased .given .1)
+    let told = c .before in
+    let erased = told .before .before .before .before in
+    erase-refused _ _ _ (search needs) _ _ _ (rw (erased .before .before .unpack .ensures) at (erased .erase-byte-list .ensures)) _ (told .erased .given .1)
 
 pub fv-erase-spec : {M : Type 1} → statement M
 fv-erase-spec =

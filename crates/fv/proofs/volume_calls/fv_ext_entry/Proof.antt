@@ -6,8 +6,7 @@ use Rattle.fv.proofs.volume_calls.fv_ext_entry.Statement.{statement}
 use Rattle.fv.proofs.volume_calls.fv_ext_entry.Tie as tie
 
 returns : tie.Need-returns
-returns c =
-    entry-few _ _ _ (search needs)
+returns c = entry-few _ _ _ (search needs)
 
 ext-entry-requires : tie.Need-ext-entry-requires
 ext-entry-requires c κs = search needs
@@ -23,7 +22,9 @@ same-length c = search needs
 
 returns-2 : tie.Need-returns-2
 returns-2 c =
-    entry-done _ _ _ (search needs) _ _ _ (c .before .before .before .before .before .ext-entry .ensures) (given (c .before .before .before .before .entry-outcome .result) _ _ _ _ (c .before .before .before .before .entry-outcome .ensures) (c .before .before .give .ensures))
+    let gave = c .before .before in
+    let told = gave .before .before in
+    entry-done _ _ _ (search needs) _ _ _ (told .before .ext-entry .ensures) (given (told .entry-outcome .result) _ _ _ _ (told .entry-outcome .ensures) (gave .give .ensures))
 
 pub fv-ext-entry-spec : {M : Type 1} → statement M
 fv-ext-entry-spec =

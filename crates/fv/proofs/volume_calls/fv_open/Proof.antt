@@ -5,8 +5,7 @@ use Rattle.fv.proofs.volume_calls.fv_open.Statement.{statement}
 use Rattle.fv.proofs.volume_calls.fv_open.Tie as tie
 
 returns : tie.Need-returns
-returns c =
-    open-few _ _ _ (search needs)
+returns c = open-few _ _ _ (search needs)
 
 open-volume-requires : tie.Need-open-volume-requires
 open-volume-requires c κs = search needs
@@ -18,8 +17,7 @@ cast-result : tie.Need-cast-result
 cast-result c = search needs
 
 returns-2 : tie.Need-returns-2
-returns-2 c =
-    open-refused _ _ _ (search needs) _ _ (c .before .before .before .open-volume .ensures) _ (c .before .answer .given .1)
+returns-2 c = open-refused _ _ _ (search needs) _ _ (c .before .before .before .open-volume .ensures) _ (c .before .answer .given .1)
 
 enum-told : tie.Need-enum-told
 enum-told c = search needs
@@ -32,7 +30,9 @@ same-length c = search needs
 
 returns-3 : tie.Need-returns-3
 returns-3 c =
-    open-done _ _ _ (search needs) _ _ (c .before .before .before .before .before .before .open-volume .ensures) _ (c .before .before .before .before .enum-told .given .1) (c .before .before .pack .ensures)
+    let packed = c .before .before in
+    let told = packed .before .before in
+    open-done _ _ _ (search needs) _ _ (told .before .before .open-volume .ensures) _ (told .enum-told .given .1) (packed .pack .ensures)
 
 pub fv-open-spec : {M : Type 1} → statement M
 fv-open-spec =
