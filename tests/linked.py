@@ -68,11 +68,11 @@ def program(folder, archive=None):
     return made
 
 
-def run(program, script, parity):
+def run(program, script, layout, turn):
     """The lines that the program prints, and how it ended where not well."""
     options = dict(os.environ, ASAN_OPTIONS="detect_leaks=0")
     try:
-        ran = subprocess.run([program, str(parity)], input=script, capture_output=True, env=options, timeout=LONGEST_RUN)
+        ran = subprocess.run([program, layout, str(turn)], input=script, capture_output=True, env=options, timeout=LONGEST_RUN)
     except subprocess.TimeoutExpired as cut:
         return (cut.stdout or b"").decode().split("\n")[:-1], "not at the end after %d seconds" % LONGEST_RUN
     ending = "status %d: %s" % (ran.returncode, ran.stderr.decode(errors="replace")[-1500:].strip()) if ran.returncode else ""

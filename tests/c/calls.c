@@ -2,36 +2,24 @@
  * Carries out a script of requests with the calls of include/fv.h and prints a line for each; tests/host makes the script and
  * knows the lines. tests/README.md has both formats.
  *
- *     calls PARITY < script
+ *     calls LAYOUT TURN < script
  *
- * Each lent range stands alone in pages of its own. Its last byte is right before a page that cannot be touched or, in the requests
- * whose number is odd (even where PARITY is 1), its first byte right after one. A range lent as const cannot be written during the
- * call. The library is not compiled with the sanitizers, which watch this program alone: an access of the library out of bounds is
- * seen by those pages, and a store near the range's other end by the bytes around it, which are known.
+ * Where LAYOUT is `apart`, each lent range stands alone in pages of its own. Its last byte is right before a page that cannot be touched
+ * or, in the requests whose number is odd (even where TURN is 1), its first byte right after one. A range lent as const cannot be written
+ * during the call. Where LAYOUT is `near`, the ranges of a request stand one after the other, with gaps of 0 to 31 bytes, in the order
+ * state, volume, data, answer (the reverse where TURN is 1), and one end of them is beside such a page. The library is not compiled with
+ * the sanitizers, which watch this program alone: an access of the library out of bounds is seen by those pages, and a store beside a
+ * range by the bytes around it, which are known.
  */
 #define _GNU_SOURCE
 #include <setjmp.h>
 #include <signal.h>
-#include <stdint.h>
-#include <stdio.h>
-#include <stdlib.h>
-#include <string.h>
-#include <sys/mman.h>
 
 #include "fv.h"
+#include "ranges.h"
 
 _Static_assert(FV_STATE_BYTES == 304 && FV_ANSWER_BYTES == 16, "document 02's numbers");
 _Static_assert(FV_FRAMEWORK == 0 && FV_PI != 0, "document 02's modes");
-
-enum { PAGE = 4096, ROOM = (64 << 20) + 16 * PAGE, AROUND = 64, MARK = 0xC5, SHOWN = 4096 };
-enum { STATE, VOLUME, DATA, ANSWER, PLACES };
-static const char *const PLACE_NAMES[PLACES] = {"state", "volume", "data", "answer"};
-
-static void stop(const char *why)
-{
-    fprintf(stderr, "calls: %s\n", why);
-    exit(2);
-}
 
 /* ---- The script ---- */
 
@@ -68,64 +56,6 @@ static uint64_t take_number(int width)
     return value;
 }
 
-/* ---- The places of the ranges: ROOM bytes each, a page that cannot be touched before them and one behind ---- */
-
-struct range {
-    uint8_t *bytes;
-    size_t length;
-    int lent, constant;         /* of this request; and lent as const */
-};
-
-static uint8_t *rooms[PLACES];
-static struct range ranges[PLACES];
-
-static void make_rooms(void)
-{
-    for (int place = 0; place < PLACES; place++) {
-        uint8_t *all = mmap(NULL, ROOM + 2 * PAGE, PROT_NONE, MAP_PRIVATE | MAP_ANONYMOUS | MAP_NORESERVE, -1, 0);
-        if (all == MAP_FAILED || mprotect(all + PAGE, ROOM, PROT_READ | PROT_WRITE))
-            stop("no memory for the ranges");
-        rooms[place] = all + PAGE;
-        ranges[place].bytes = rooms[place];
-    }
-}
-
-static void protect(const struct range *r, int protection)
-{
-    uintptr_t first = (uintptr_t)r->bytes / PAGE * PAGE;
-    uintptr_t end = ((uintptr_t)r->bytes + r->length + PAGE - 1) / PAGE * PAGE;
-    if (end > first && mprotect((void *)first, end - first, protection))
-        stop("the protection of a range cannot be changed");
-}
-
-/* The known bytes before a range and behind it, as many as its room has there. */
-static size_t before(int place)
-{
-    size_t have = (size_t)(ranges[place].bytes - rooms[place]);
-    return have < AROUND ? have : AROUND;
-}
-
-static size_t behind(int place)
-{
-    size_t have = (size_t)(rooms[place] + ROOM - ranges[place].bytes) - ranges[place].length;
-    return have < AROUND ? have : AROUND;
-}
-
-static void mark_around(int place)
-{
-    struct range *r = &ranges[place];
-    memset(r->bytes - before(place), MARK, before(place));
-    memset(r->bytes + r->length, MARK, behind(place));
-}
-
-static int marked(const uint8_t *bytes, size_t length)
-{
-    for (size_t i = 0; i < length; i++)
-        if (bytes[i] != MARK)
-            return 0;
-    return 1;
-}
-
 /* ---- A request ---- */
 
 /* The length of a range of so many pieces, which stay in the script. */
@@ -160,13 +90,12 @@ static void take_range(int place, int constant, int at_start)
     size_t length = kept ? r->length : pieces_length(pieces);
     if (length > ROOM)
         stop("a range is too long");
-    uint8_t *bytes = at_start ? rooms[place] : rooms[place] + ROOM - length;
+    uint8_t *bytes = own_start(place, length, at_start);
     if (kept)
         memmove(bytes, r->bytes, length);
     else
         put_pieces(bytes, pieces);
-    *r = (struct range){bytes, length, 1, constant};
-    mark_around(place);
+    lend_alone(place, length, constant, at_start);
 }
 
 enum { OPEN, READ, WRITE, ERASE, SEARCH, SEARCH_FIRST, APPEND, EXT_ENTRY, CALLS };
@@ -237,19 +166,17 @@ static void catch_signals(void)
 /* Answers 0, or the signal that ended the call. */
 static int call_protected(void)
 {
-    for (int place = 0; place < PLACES; place++)
-        if (ranges[place].lent && ranges[place].constant)
-            protect(&ranges[place], PROT_READ);
+    protect_constant(PROT_READ);
     int signal = sigsetjmp(back, 1);
     if (signal == 0)
         returned = carry_out();
-    for (int place = 0; place < PLACES; place++)
-        if (ranges[place].lent && ranges[place].constant)
-            protect(&ranges[place], PROT_READ | PROT_WRITE);
+    protect_constant(PROT_READ | PROT_WRITE);
     return signal;
 }
 
 /* ---- What is printed ---- */
+
+enum { SHOWN = 4096 };          /* bytes of a range that are shown themselves */
 
 /* CRC-32, eight bytes at a time: row k of the table has the rest of a byte with k bytes of zero behind it. */
 static uint32_t crc_table[8][256];
@@ -303,9 +230,9 @@ static void print_range(int place)
         printf("%zu:%08x", r->length, (unsigned)crc32(r->bytes, r->length));
     else
         print_hex(r);
-    if (!marked(r->bytes - before(place), before(place)))
+    if (!marked(r->bytes - r->before, r->before))
         fputs(" stored before it", stdout);
-    if (!marked(r->bytes + r->length, behind(place)))
+    if (!marked(r->bytes + r->length, r->behind))
         fputs(" stored behind it", stdout);
 }
 
@@ -315,7 +242,8 @@ static void print_touched(int signal)
     printf("signal %d", signal);
     for (int place = 0; place < PLACES; place++) {
         const struct range *r = &ranges[place];
-        if (r->lent && touched >= rooms[place] - PAGE && touched < rooms[place] + ROOM + PAGE)
+        const uint8_t *room = rooms[together ? TOGETHER : place];
+        if (r->lent && touched >= room - PAGE && touched < room + ROOM + PAGE)
             printf(" at byte %td of the %zu of %s", touched - r->bytes, r->length, PLACE_NAMES[place]);
     }
 }
@@ -333,16 +261,25 @@ static void print_line(int signal)
     fflush(stdout);
 }
 
+static int is(int count, char **words, int i, const char *wanted)
+{
+    return i < count && strcmp(words[i], wanted) == 0;
+}
+
 int main(int count, char **words)
 {
-    int parity = count > 1 && strcmp(words[1], "1") == 0;
+    int near = is(count, words, 1, "near"), turn = is(count, words, 2, "1");
     read_script();
     make_rooms();
     make_crc_table();
     catch_signals();
-    for (int request = 0; script_at < script_length; request++) {
-        take_request((request + parity) % 2);
+    for (unsigned request = 0; script_at < script_length; request++) {
+        take_request((request + (unsigned)turn) % 2);
+        if (near)
+            bring_together(request, turn);
         print_line(call_protected());
+        if (near)
+            bring_back();
     }
     free(script);
     return 0;
