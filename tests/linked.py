@@ -5,11 +5,13 @@ import shlex
 import shutil
 import subprocess
 import sys
+from collections import namedtuple
 from pathlib import Path
 
 ROOT = Path(__file__).resolve().parent.parent
 SANITIZERS = ["-fsanitize=address,undefined", "-fno-sanitize-recover=all"]
-FLAGS = ["-std=c11", "-O1", "-g", "-Wall", "-Wextra", "-Werror", *SANITIZERS]
+BOUND = ["-Wl,-z,now"]      # memcpy and the like are not found at their first use, which takes stack
+FLAGS = ["-std=c11", "-O1", "-g", "-Wall", "-Wextra", "-Werror"]
 LONGEST_RUN = 300       # seconds
 
 
@@ -54,13 +56,12 @@ def library():
     return ROOT / "target" / "staticlib" / "libfv.a"
 
 
-def program(folder, archive=None):
-    """Compiles and links the program with the archive, the library's own unless one is named. Answers its path."""
-    words = tested_compiler(folder)
-    archive = archive.resolve() if archive else library()
-    if not archive.is_file():
-        fail("%s is not there" % archive)
-    made = folder / "calls"
+# The program with the sanitizers, and without them, for what each call takes of the stack.
+Programs = namedtuple("Programs", "watched bare")
+
+
+def program(words, archive, made):
+    """Compiles and links the program by these words of a command. Answers its path."""
     linking = subprocess.run([*words, *FLAGS, "-I", str(ROOT / "include"), str(ROOT / "tests" / "c" / "calls.c"), str(archive), "-o", str(made)],
                              capture_output=True, text=True)
     if linking.returncode:
@@ -68,11 +69,20 @@ def program(folder, archive=None):
     return made
 
 
-def run(program, script, layout, turn):
+def programs(folder, archive=None):
+    """Both programs, with the archive, the library's own unless one is named."""
+    words = tested_compiler(folder)
+    archive = archive.resolve() if archive else library()
+    if not archive.is_file():
+        fail("%s is not there" % archive)
+    return Programs(program([*words, *SANITIZERS], archive, folder / "calls"), program([*words, *BOUND], archive, folder / "bare_calls"))
+
+
+def run(program, script, *arguments):
     """The lines that the program prints, and how it ended where not well."""
     options = dict(os.environ, ASAN_OPTIONS="detect_leaks=0")
     try:
-        ran = subprocess.run([program, layout, str(turn)], input=script, capture_output=True, env=options, timeout=LONGEST_RUN)
+        ran = subprocess.run([program, *arguments], input=script, capture_output=True, env=options, timeout=LONGEST_RUN)
     except subprocess.TimeoutExpired as cut:
         return (cut.stdout or b"").decode().split("\n")[:-1], "not at the end after %d seconds" % LONGEST_RUN
     ending = "status %d: %s" % (ran.returncode, ran.stderr.decode(errors="replace")[-1500:].strip()) if ran.returncode else ""

@@ -2,14 +2,15 @@
  * Carries out a script of requests with the calls of include/fv.h and prints a line for each; tests/host makes the script and
  * knows the lines. tests/README.md has both formats.
  *
- *     calls LAYOUT TURN < script
+ *     calls LAYOUT TURN [stack] < script
  *
  * Where LAYOUT is `apart`, each lent range stands alone in pages of its own. Its last byte is right before a page that cannot be touched
  * or, in the requests whose number is odd (even where TURN is 1), its first byte right after one. A range lent as const cannot be written
  * during the call. Where LAYOUT is `near`, the ranges of a request stand one after the other, with gaps of 0 to 31 bytes, in the order
  * state, volume, data, answer (the reverse where TURN is 1), and one end of them is beside such a page. The library is not compiled with
  * the sanitizers, which watch this program alone: an access of the library out of bounds is seen by those pages, and a store beside a
- * range by the bytes around it, which are known.
+ * range by the bytes around it, which are known. With `stack` each call runs on a stack of its own, and its line starts with the bytes
+ * that it took there.
  */
 #define _GNU_SOURCE
 #include <setjmp.h>
@@ -17,6 +18,7 @@
 
 #include "fv.h"
 #include "ranges.h"
+#include "stack.h"
 
 _Static_assert(FV_STATE_BYTES == 304 && FV_ANSWER_BYTES == 16, "document 02's numbers");
 _Static_assert(FV_FRAMEWORK == 0 && FV_PI != 0, "document 02's modes");
@@ -128,19 +130,24 @@ static void take_request(int at_start)
 
 #define LENT(place) ranges[place].bytes, ranges[place].length
 
-static uint32_t carry_out(void)
+static uint32_t number_returned(void)
 {
     uint64_t a = numbers[0], b = numbers[1], c = numbers[2];
     switch (call) {
-    case OPEN: return fv_open(LENT(STATE), LENT(VOLUME), a);
-    case READ: return fv_read(LENT(STATE), LENT(VOLUME), a, b, LENT(DATA), LENT(ANSWER));
-    case WRITE: return fv_write(LENT(STATE), LENT(VOLUME), a, b, LENT(DATA), LENT(ANSWER));
-    case ERASE: return fv_erase(LENT(STATE), LENT(VOLUME), LENT(DATA));
-    case SEARCH: return fv_search((uint32_t)a, LENT(VOLUME), (uint8_t)b, c, LENT(ANSWER));
-    case SEARCH_FIRST: return fv_search_first((uint32_t)a, LENT(VOLUME), (uint8_t)b, LENT(ANSWER));
-    case APPEND: return fv_append((uint32_t)a, LENT(VOLUME), b, (uint8_t)c, LENT(DATA), LENT(ANSWER));
-    default: return fv_ext_entry(LENT(VOLUME), a, LENT(ANSWER));
+    case OPEN: return noted_fv_open(LENT(STATE), LENT(VOLUME), a);
+    case READ: return noted_fv_read(LENT(STATE), LENT(VOLUME), a, b, LENT(DATA), LENT(ANSWER));
+    case WRITE: return noted_fv_write(LENT(STATE), LENT(VOLUME), a, b, LENT(DATA), LENT(ANSWER));
+    case ERASE: return noted_fv_erase(LENT(STATE), LENT(VOLUME), LENT(DATA));
+    case SEARCH: return noted_fv_search((uint32_t)a, LENT(VOLUME), (uint8_t)b, c, LENT(ANSWER));
+    case SEARCH_FIRST: return noted_fv_search_first((uint32_t)a, LENT(VOLUME), (uint8_t)b, LENT(ANSWER));
+    case APPEND: return noted_fv_append((uint32_t)a, LENT(VOLUME), b, (uint8_t)c, LENT(DATA), LENT(ANSWER));
+    default: return noted_fv_ext_entry(LENT(VOLUME), a, LENT(ANSWER));
     }
+}
+
+static void carry_out(void)
+{
+    returned = number_returned();
 }
 
 /* ---- A call that touches what it may not, or ends in a trap: the signal, and the address ---- */
@@ -164,12 +171,14 @@ static void catch_signals(void)
 }
 
 /* Answers 0, or the signal that ended the call. */
-static int call_protected(void)
+static int call_protected(int on_its_own_stack)
 {
     protect_constant(PROT_READ);
     int signal = sigsetjmp(back, 1);
-    if (signal == 0)
-        returned = carry_out();
+    if (signal == 0 && on_its_own_stack)
+        run_on_own_stack(carry_out);
+    else if (signal == 0)
+        carry_out();
     protect_constant(PROT_READ | PROT_WRITE);
     return signal;
 }
@@ -268,16 +277,21 @@ static int is(int count, char **words, int i, const char *wanted)
 
 int main(int count, char **words)
 {
-    int near = is(count, words, 1, "near"), turn = is(count, words, 2, "1");
+    int near = is(count, words, 1, "near"), turn = is(count, words, 2, "1"), stack = is(count, words, 3, "stack");
     read_script();
     make_rooms();
     make_crc_table();
     catch_signals();
+    if (stack)
+        make_own_stack();
     for (unsigned request = 0; script_at < script_length; request++) {
         take_request((request + (unsigned)turn) % 2);
         if (near)
             bring_together(request, turn);
-        print_line(call_protected());
+        int signal = call_protected(stack);
+        if (stack)
+            printf("%zu\t", stack_taken());
+        print_line(signal);
         if (near)
             bring_back();
     }

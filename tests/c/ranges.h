@@ -34,19 +34,19 @@ static void stop(const char *why)
     exit(2);
 }
 
-/* So many bytes, whole pages, between two pages that cannot be touched. */
-static uint8_t *pages(size_t length)
+/* So many bytes, whole pages, behind so many that cannot be touched, and before a page of such. */
+static uint8_t *pages(size_t untouched, size_t length)
 {
-    uint8_t *all = mmap(NULL, length + 2 * PAGE, PROT_NONE, MAP_PRIVATE | MAP_ANONYMOUS | MAP_NORESERVE, -1, 0);
-    if (all == MAP_FAILED || mprotect(all + PAGE, length, PROT_READ | PROT_WRITE))
+    uint8_t *all = mmap(NULL, untouched + length + PAGE, PROT_NONE, MAP_PRIVATE | MAP_ANONYMOUS | MAP_NORESERVE, -1, 0);
+    if (all == MAP_FAILED || mprotect(all + untouched, length, PROT_READ | PROT_WRITE))
         stop("no memory for the ranges");
-    return all + PAGE;
+    return all + untouched;
 }
 
 static void make_rooms(void)
 {
     for (int room = 0; room < ROOMS; room++)
-        rooms[room] = pages(ROOM);
+        rooms[room] = pages(PAGE, ROOM);
     for (int place = 0; place < PLACES; place++)
         ranges[place].bytes = rooms[place];
 }
