@@ -245,8 +245,8 @@ uint32_t plain_erase(const uint8_t *state, size_t state_len,
     if (refusal)
         return refusal;
     for (size_t i = 0; i < pairs; i++) {
-        uint64_t first = load64(list + 16 * i), count = load64(list + 16 * i + 8);
-        uint64_t start = block_start(&s, first), end = block_start(&s, first + count);
+        uint64_t start, end;
+        find_run(&s, load64(list + 16 * i), load64(list + 16 * i + 8), &start, &end);
         memset(volume + start, s.n.attributes & ERASE_ONE ? 0xFF : 0, end - start);
     }
     return SUCCESS;

@@ -142,11 +142,22 @@ static bool find_block(const struct state *s, uint64_t block, uint64_t *first, u
     return false;
 }
 
-/* The first byte of a block, or the volume's end for the block after the last. */
-static uint64_t block_start(const struct state *s, uint64_t block)
+/* The bytes of a run of blocks, all of which are there: one walk of the map. */
+static void find_run(const struct state *s, uint64_t block, uint64_t count, uint64_t *first, uint64_t *end)
 {
-    uint64_t first, length;
-    return find_block(s, block, &first, &length) ? first : s->n.length;
+    const uint8_t *map = s->map;
+    struct map_entry e = map_entry(map, 0);
+    uint64_t place = 0;
+    for (; block >= e.count; e = map_entry(map += MAP_ENTRY, 0)) {
+        block -= e.count;
+        place += (uint64_t)e.count * e.length;
+    }
+    *first = place + block * e.length;
+    for (block += count; block > e.count; e = map_entry(map += MAP_ENTRY, 0)) {
+        block -= e.count;
+        place += (uint64_t)e.count * e.length;
+    }
+    *end = place + block * e.length;
 }
 
 #endif
