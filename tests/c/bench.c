@@ -67,10 +67,10 @@ static double measured(enum who who, struct work *w, long times)
 }
 
 /* How many calls fill a slice. */
-static long times_in_slice(struct work *w)
+static long times_in_slice(enum who who, struct work *w)
 {
     long times = 1;
-    while (measured(PLAIN, w, times) * (double)times < SLICE)
+    while (measured(who, w, times) * (double)times < SLICE)
         times *= 2;
     return times;
 }
@@ -95,11 +95,13 @@ static void time_row(const struct row *row, double middle[3], double duration, l
     static double list[3][MOST_ROUNDS];
     struct work w = prepared(row);
     int kinds = *row->memory ? 3 : 2;
-    long times = times_in_slice(&w), round = 0;
+    long times[3], round = 0;
+    for (int who = 0; who < kinds; who++)
+        times[who] = times_in_slice((enum who)who, &w);
     for (double start = now(); round < MOST_ROUNDS && (round < rounds || now() - start < duration); round++) {
         for (int i = 0; i < kinds; i++) {
             enum who who = (enum who)((round + i) % kinds);
-            list[who][round] = measured(who, &w, times);
+            list[who][round] = measured(who, &w, times[who]);
         }
     }
     for (int who = 0; who < kinds; who++)

@@ -24,8 +24,8 @@ static void pattern(uint8_t *to, size_t count, unsigned period)
 
 /* ---- Volumes ---- */
 
-/* Attributes: reads and writes enabled and memory mapped; erased bytes are FF, or 00. */
-enum { NO_STICKY = 0x0C3F, STICKY_AND = 0x0E3F, STICKY_OR = 0x063F };
+/* Attributes: reads and writes enabled (in the last, reads alone) and memory mapped; erased bytes are FF, or 00. */
+enum { NO_STICKY = 0x0C3F, STICKY_AND = 0x0E3F, STICKY_OR = 0x063F, NO_WRITES = 0x0C1F };
 
 /* A volume of so many map entries, each of `count` blocks of that length. */
 static void make_volume(struct work *w, int attributes, int edition, int entries, int count, int length)
@@ -116,21 +116,56 @@ static void prepare_sticky_or(struct work *w, int entries, int count)
     w->call = WRITE;
 }
 
-/* So many pairs, each of `count` blocks, spread evenly over 65,536 blocks of 256 bytes. */
-static void prepare_erase(struct work *w, int pairs, int count)
+/* A list of so many pairs, each of `count` blocks, the first blocks `step` apart from 0 to the volume's end and over again; then the terminator. */
+static void prepare_list(struct work *w, int pairs, int step, int count, int blocks)
 {
-    int step = 65536 / pairs;
-    memset(bytes, 0, LARGEST);
-    open_new(w, NO_STICKY, 1, 65536, 256);
     w->call = ERASE;
-    w->place = 256;
     w->data = data;
     w->data_len = 16 * (size_t)pairs + 8;
     for (int i = 0; i < pairs; i++) {
-        put(data + 16 * i, (uint64_t)i * (uint64_t)step, 8);
+        put(data + 16 * i, (uint64_t)i * (uint64_t)step % (uint64_t)blocks, 8);
         put(data + 16 * i + 8, (uint64_t)count, 8);
     }
     put(data + 16 * pairs, UINT64_MAX, 8);
+}
+
+enum { ALL_BLOCKS = 65536, ERASED_BLOCK = 256, CACHED_BLOCKS = 1024, CACHED_BLOCK = 64 };
+
+/* Pairs spread evenly over 65,536 blocks of 256 bytes. */
+static void prepare_erase(struct work *w, int pairs, int count)
+{
+    memset(bytes, 0, LARGEST);
+    open_new(w, NO_STICKY, 1, ALL_BLOCKS, ERASED_BLOCK);
+    w->place = ERASED_BLOCK;
+    prepare_list(w, pairs, ALL_BLOCKS / pairs, count, ALL_BLOCKS);
+}
+
+/* Pairs of one block of 64 bytes on a volume of 64 KiB, which stays in the cache with the list. */
+static void prepare_cached_erase(struct work *w, int entries, int pairs)
+{
+    memset(bytes, 0, CACHED_BLOCKS * CACHED_BLOCK);
+    open_new(w, NO_STICKY, entries, CACHED_BLOCKS / entries, CACHED_BLOCK);
+    w->place = CACHED_BLOCK;
+    prepare_list(w, pairs, 1, 1, CACHED_BLOCKS);
+}
+
+/* A lawful list on a volume whose writes are disabled. */
+static void prepare_refused_erase(struct work *w, int pairs, int unused)
+{
+    (void)unused;
+    open_new(w, NO_WRITES, 1, ALL_BLOCKS, ERASED_BLOCK);
+    prepare_list(w, pairs, 1, 1, ALL_BLOCKS);
+    w->expected = 15;
+}
+
+/* Good pairs and no terminator. */
+static void prepare_endless_list(struct work *w, int pairs, int unused)
+{
+    (void)unused;
+    open_new(w, NO_STICKY, 1, ALL_BLOCKS, ERASED_BLOCK);
+    prepare_list(w, pairs, 1, 1, ALL_BLOCKS);
+    w->data_len -= 8;
+    w->expected = 2;
 }
 
 /* ---- Sections ---- */
@@ -244,6 +279,10 @@ const struct row rows[] = {
     {"sticky write (OR) 64 KiB, 1 map entry", "", prepare_sticky_or, 1, 64 * KIB},
     {"erase 16 MiB in 65,536 blocks, 1 pair", "memset", prepare_erase, 1, 65536},
     {"erase 10,000 pairs of 1 block of 256 bytes", "memset", prepare_erase, 10000, 1},
+    {"erase 1,000 pairs of 1 block of 64 bytes in cache, 1 map entry", "memset", prepare_cached_erase, 1, 1000},
+    {"erase 1,000 pairs of 1 block of 64 bytes in cache, 32 map entries", "memset", prepare_cached_erase, 32, 1000},
+    {"erase, writes disabled: 500,000 pairs, 15", "", prepare_refused_erase, 500000, 0},
+    {"erase, no terminator: 500,000 pairs, 2", "", prepare_endless_list, 500000, 0},
     {"search 16 MiB of 4-byte sections, first", "", prepare_small, AT_FIRST, 0},
     {"search 16 MiB of 4-byte sections, last", "", prepare_small, AT_LAST, 0},
     {"search 16 MiB of 4-byte sections, not there", "", prepare_small, NOT_THERE, 0},
