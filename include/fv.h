@@ -4,7 +4,8 @@
  * says: 5 for too few bytes, and otherwise what the library's call behind it answers (docs/API.md).
  *
  * `rt staticlib fv` proves and builds target/staticlib/libfv.a: x86-64 code with SSE2, System V
- * calling convention and its red zone, which wants memcpy and memset of whom it is linked with.
+ * calling convention and its red zone, which wants memcpy, memmove and memset of whom it is linked
+ * with.
  *
  * Every call returns a number: 0 for success; 4, short, where a read or a write was cut at the
  * block's end (what was moved is moved, and the count is answered); or a refusal's number, never
@@ -19,8 +20,8 @@
  * overlaps no other range of the call. Bytes that a call only stores into may hold anything.
  *
  * No range needs an alignment. No call allocates, keeps anything, or reads a global; each takes less
- * than 1 KiB of stack (measured, not proved). Ranges that are longer than what is stored keep the
- * bytes behind it.
+ * than 1 KiB of stack (tests/host measures it; no proof says it). Ranges that are longer than what
+ * is stored keep the bytes behind it.
  */
 #ifndef FV_H
 #define FV_H

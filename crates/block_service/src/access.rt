@@ -5,7 +5,7 @@ ghost use Prim.Native.Nat.{_+_, _≤_, _<_};
 ghost use lib.ListN.{length, getD, take, drop};
 ghost use Rattle.common.specs.Lists.{edit};
 ghost use Rattle.block_service.specs.Access.{countMoved, writtenByte, writeChange, changedByte};
-use bytes::copy;
+use moves::move_bytes;
 use volume::attributes::ERASE_POLARITY;
 use volume::attributes::STICKY_WRITE;
 use volume::attributes::is_set;
@@ -35,7 +35,7 @@ pub(crate) fn load(volume: &[u8], start: usize, offset: usize, buffer: &mut [u8]
     }
     let from = start + offset;
     let to = from + count;
-    copy(&volume[from..to], buffer);
+    move_bytes(&volume[from..to], buffer);
 }
 
 // Stores the first `count` bytes of `new` in the volume, from an offset of the block at `start`, by the
@@ -60,9 +60,20 @@ pub(crate) fn store(
     write_part(attributes, &mut volume[at..end], &new[..count]);
 }
 
-// Writes `new` over the part, byte by byte. The attributes are the same at every byte, and what is compiled tests them
-// once, before a loop that copies, one of AND or one of OR.
+// Writes `new` over the part: a plain move, or byte by byte where the write is sticky.
 fn write_part(attributes: u32, part: &mut [u8], new: &[u8])
+    requires { ⌜ length (now part) ≡ length (now new) ⌝ }
+    ensures { λ _. ⌜ now (part .exit) ≡ edit (λ i old. writtenByte attributes old (getD (now (new .entry)) i 0)) 0 (now (part .entry)) ⌝ }
+{
+    if is_set(attributes, STICKY_WRITE) {
+        merge_part(attributes, part, new);
+        return;
+    }
+    move_bytes(new, part);
+}
+
+// The same byte by byte. The attributes are the same at every byte, and what is compiled tests them once, before a loop of AND or one of OR.
+fn merge_part(attributes: u32, part: &mut [u8], new: &[u8])
     requires { ⌜ length (now part) ≡ length (now new) ⌝ }
     ensures { λ _. ⌜ now (part .exit) ≡ edit (λ i old. writtenByte attributes old (getD (now (new .entry)) i 0)) 0 (now (part .entry)) ⌝ }
 {

@@ -72,13 +72,11 @@ pub(crate) fn equal_blocks(words: &[u32], entry: usize, len: usize) -> usize
     let mut count: usize = 0;
     let mut i = entry + 1;
     while i < entries {
-        let next = i + 1;
-        if wide(words[2 * i + 1]) as usize == len {
-            count += wide(words[2 * i]) as usize;
-            i = next;
-        } else {
-            i = entries;
+        if wide(words[2 * i + 1]) as usize != len {
+            break;
         }
+        count += wide(words[2 * i]) as usize;
+        i += 1;
     }
     count
 }

@@ -62,7 +62,7 @@ fn word_count(list: &[u64], tail: &[u8]) -> usize
     list.len() + tail.len() / 8
 }
 
-// Word i of an erase list; past its end 0.
+// Word i of an erase list; past its end 0. A part of 8 bytes is lent to the reader, so that no test of the bound is compiled.
 fn word_at(list: &[u64], tail: &[u8], i: usize) -> u64
     ensures { λ r. ⌜ r ≡ getD (wholeList (now (list .entry)) (now (tail .entry))) i 0 ⌝ }
 {
@@ -72,7 +72,9 @@ fn word_at(list: &[u64], tail: &[u8], i: usize) -> u64
     }
     let k = i - n;
     if k < tail.len() / 8 {
-        return u64_at(tail, 8 * k);
+        let from = 8 * k;
+        let end = from + 8;
+        return u64_at(&tail[from..end], 0);
     }
     0
 }

@@ -340,25 +340,17 @@ fn erase(st: State, volume: &mut [u8], list: &[u64], tail: &[u8]) -> Erased
         volume.len() as u64,
         WRITE_STATUS,
     );
+    if let Check::Refused(number) = lent {
+        return Erased::Refused(number);
+    }
     let total = block_count(st.entries, &map);
     let listed = list_refusal(total, st.protected, list, tail);
-    let refusal = first_of(lent, listed);
-    if let Check::Refused(number) = refusal {
+    if let Check::Refused(number) = listed {
         return Erased::Refused(number);
     }
     let end = 2 * st.entries;
     erase_list(&map[..end], volume, list, tail, erased_byte(st.attributes));
     Erased::Success
-}
-
-// The first's refusal where it is one, otherwise what the second says.
-fn first_of(first: Check, second: Check) -> Check
-    ensures { λ r. ⌜ refusalOf r ≡ unlessRefused (λ number. some number) (refusalOf first) (refusalOf second) ⌝ }
-{
-    if let Check::Refused(number) = first {
-        return Check::Refused(number);
-    }
-    second
 }
 
 // Reads are free: no block is kept from them.

@@ -139,6 +139,11 @@ pub le-two : (s : List ℕ) (at j : ℕ) → j ≡ at + 1 → le 2 (getD s at 0 
 unfolding le
 le-two s at j e = rw e
 
+-- that of the last byte and 0, where no other follows
+pub le-last : (s : List ℕ) (at : ℕ) → length s ≤ at + 1 → le 2 (getD s at 0 ∷ 0 ∷ []) 0 ≡ le 2 s at
+unfolding le
+le-last s at h = rw (List·getD-eq-default s 0 {n = at + 1} h)
+
 pub le-four : (s : List ℕ) (at j k l : ℕ) → j ≡ at + 1 → k ≡ at + 2 → l ≡ at + 3
     → le 4 (getD s at 0 ∷ getD s j 0 ∷ getD s k 0 ∷ getD s l 0 ∷ []) 0 ≡ le 4 s at
 unfolding le

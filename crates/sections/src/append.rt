@@ -1,4 +1,5 @@
 // Appending a leaf to a section stream.
+ghost use mathlib.Core.List.{[], _∷_, _++_};
 ghost use mathlib.Core.Path.{_≡_};
 ghost use Prim.Native.Nat.{_+_, _≤_};
 ghost use mathlib.Core.Bool.{not, _&&_};
@@ -6,6 +7,7 @@ ghost use mathlib.Core.Logic.{_⊎_};
 ghost use lib.Dec.{ltb};
 ghost use lib.ListN.{length};
 ghost use lib.Seq.{sets};
+ghost use Rattle.numbers.specs.LittleEndian.{leBytes};
 ghost use Rattle.sections.specs.Append.{appendedAnswer, appendOf, bufferAfter, addedWith, leafHeader, leafStart};
 ghost use Rattle.sections.specs.Header.{isPi, largestField};
 ghost use Rattle.sections.specs.Walk.{aligned as alignedOf};
@@ -95,9 +97,7 @@ fn leaf_header(mode: Mode, m: usize) -> usize
     }
 }
 
-// Stores padding, header and body from byte `used` on. The body goes by the kit's plain loop over two
-// slices, which in an archive is a loop of 32-byte moves behind a test of overlap; `numbers::store`,
-// at any place, tests a bound at every byte.
+// Stores padding, header and body from byte `used` on.
 fn store_leaf(buffer: &mut [u8], used: usize, section_type: u8, header: usize, body: &[u8])
     requires { ⌜ ((header ≡ 4) ⊎ (header ≡ 8)) × (alignedOf used + (header + length (now body)) ≤ length (now buffer)) ⌝ }
     ensures { λ _. ⌜ now (buffer .exit) ≡ sets (now (buffer .entry)) used (addedWith header used «section_type» (now (body .entry))) ⌝ }
@@ -107,23 +107,28 @@ fn store_leaf(buffer: &mut [u8], used: usize, section_type: u8, header: usize, b
     store_header(buffer, start, section_type, header, body.len());
     let from = start + header;
     let end = from + body.len();
-    bytes::copy(body, &mut buffer[from..end]);
+    moves::move_bytes(body, &mut buffer[from..end]);
 }
 
-// Stores the header of a leaf with a body of m bytes.
+// Stores the header of a leaf with a body of m bytes. The part of 4 bytes is lent by itself, so that its stores test no bound.
 fn store_header(buffer: &mut [u8], start: usize, section_type: u8, header: usize, m: usize)
     requires { ⌜ (4 ≤ header) × (start + (header + m) ≤ length (now buffer)) ⌝ }
     ensures { λ _. ⌜ now (buffer .exit) ≡ sets (now (buffer .entry)) start (leafStart header «section_type» m) ⌝ }
 {
     let size = header + m;
+    let end = start + COMMON_HEADER;
     if header == LONG_HEADER {
-        numbers::store(buffer, start, 3, LARGEST_FIELD as u64);
-        numbers::store(buffer, start + TYPE, 1, section_type as u64);
+        store_common_header(&mut buffer[start..end], LARGEST_FIELD, section_type);
         numbers::store(buffer, start + EXTENDED_SIZE, 4, size as u64);
         return;
     }
-    buffer[start] = (size % 256) as u8;
-    buffer[start + 1] = (size / 256 % 256) as u8;
-    buffer[start + 2] = (size / 65_536 % 256) as u8;
-    buffer[start + TYPE] = section_type;
+    store_common_header(&mut buffer[start..end], size, section_type);
+}
+
+// Stores what every header begins with at the start of a part: the size field and the type.
+fn store_common_header(part: &mut [u8], field: usize, section_type: u8)
+    ensures { λ _. ⌜ now (part .exit) ≡ sets (now (part .entry)) 0 (leBytes 3 field ++ «section_type» ∷ []) ⌝ }
+{
+    numbers::store(part, 0, 3, field as u64);
+    numbers::store(part, TYPE, 1, section_type as u64);
 }

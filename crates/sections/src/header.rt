@@ -1,5 +1,8 @@
 // Reading the header of the section at one start.
 ghost use mathlib.Core.Path.{_≡_};
+ghost use mathlib.Core.Bool.{cond};
+ghost use lib.Dec.{ltb};
+ghost use Rattle.sections.specs.declared.header.Size.the-variants.{Refused};
 ghost use Prim.Native.Nat.{_+_, _≤_, _<_, _^_};
 ghost use lib.ListN.{length};
 ghost use Rattle.sections.specs.Header.{isLong, sizedAt, testedOf, headAt, holderOf, Lies};
@@ -130,37 +133,43 @@ pub(crate) fn is_long(mode: Mode, field: usize) -> bool
     }
 }
 
-// Past 201: faults 202 and 203, in that order, or a leaf or a holder.
+// Past 201: faults 202 and 203, in that order, or a leaf or a holder. The class is asked first, so that each class's tests are compiled with its own
+// least size.
 fn tested(section_type: u8, header: usize, size: usize, left: usize) -> Size
     requires { ⌜ (4 ≤ header) × (header ≤ 8) ⌝ }
     ensures { λ r. ⌜ r ≡ testedOf left «section_type» header size ⌝ }
 {
     let info = type_info(section_type);
     let least = info.least + (header - COMMON_HEADER);
+    let leaf = Size::Leaf {
+        section_type,
+        header,
+        size,
+    };
+    let holder = Size::Holder {
+        section_type,
+        header,
+        size,
+    };
+    let class = info.class;
+    match class {
+        Class::OpenableHolder => fitting(size, least, left, holder),
+        Class::GuidHeadedLeaf => fitting(size, least, left, leaf),
+        Class::PlainLeaf => fitting(size, least, left, leaf),
+    }
+}
+
+// Faults 202 and 203, in that order, of a section of `size` bytes that has at least `least`, or what was found.
+fn fitting(size: usize, least: usize, left: usize, found: Size) -> Size
+    ensures { λ r. ⌜ r ≡ cond (ltb size least) (Refused 202) (cond (ltb left size) (Refused 203) found) ⌝ }
+{
     if size < least {
         return Size::Refused(202);
     }
     if left < size {
         return Size::Refused(203);
     }
-    let class = info.class;
-    match class {
-        Class::OpenableHolder => Size::Holder {
-            section_type,
-            header,
-            size,
-        },
-        Class::GuidHeadedLeaf => Size::Leaf {
-            section_type,
-            header,
-            size,
-        },
-        Class::PlainLeaf => Size::Leaf {
-            section_type,
-            header,
-            size,
-        },
-    }
+    found
 }
 
 // A holder that passed 201 to 203, by its own fields: fault 204, or the section. Of the section these
@@ -184,7 +193,8 @@ pub(crate) fn holder(s: &[u8], at: usize, section_type: u8, header: usize, size:
     let first = fields;
     let from = at + offset;
     let end = at + size;
-    if s[fields + ATTRIBUTES] % 2 == 1 {
+    let attributes = numbers::u16_of(s[fields + ATTRIBUTES], s[fields + ATTRIBUTES + 1]);
+    if attributes % 2 == 1 {
         return Head::Closed {
             section_type,
             first,

@@ -54,6 +54,9 @@ pub(crate) fn walk_stream(
                 if visit(want, section_type, base + first, base + end, seek) {
                     return STOPPED;
                 }
+                if s.len() <= end { // it ends the stream: no padding
+                    return 0;
+                }
                 let next = aligned(end);
                 if !zero_bytes(s, end, next - end) {
                     return 207;
@@ -75,6 +78,9 @@ pub(crate) fn walk_stream(
                 let inner = walk_stream(mode, &s[from..end], base + from, below - 1, want, seek);
                 if inner != 0 {
                     return inner;
+                }
+                if s.len() <= end { // it ends the stream: no padding
+                    return 0;
                 }
                 let next = aligned(end);
                 if !zero_bytes(s, end, next - end) {

@@ -160,19 +160,10 @@ fn fields_refusal(
     if (s.len() as u64) < len {
         return Opening::Refused(109);
     }
-    let mapped = base_fault(attributes, base);
-    let extended = ext_fault(s, edition, closing + ENTRY_LENGTH, len as usize);
-    last_refusal(mapped, extended)
-}
-
-// The table's last two rows.
-fn last_refusal(mapped: bool, extended: bool) -> Opening
-    ensures { λ r. ⌜ refusalOf r ≡ firstRefusal (row mapped 110 ∷ row extended 112 ∷ []) ⌝ }
-{
-    if mapped {
+    if base_fault(attributes, base) {
         return Opening::Refused(110);
     }
-    if extended {
+    if ext_fault(s, edition, closing + ENTRY_LENGTH, len as usize) {
         return Opening::Refused(112);
     }
     Opening::Success
@@ -194,9 +185,8 @@ fn header_length_fault(header: usize, lent: usize) -> bool
     lent < header
 }
 
-// The sum of the 16-bit words of a byte string, modulo 65,536, in one accumulator of 16 bits that wraps at each addition, as the boot block's
-// listing keeps it. A turn of the loop loads a word and adds it. An odd byte at the end is the low byte of a last word, which is added behind
-// the loop; a header has none, and 0 is added.
+// The sum of the 16-bit words of a byte string, modulo 65,536, as the boot block's listing keeps it: a turn of the loop is a line of the
+// listing, and loads a word and adds it. An odd byte at the end is the low byte of a last word; a header has none.
 pub fn word_sum(s: &[u8]) -> u16
     ensures { λ r. ⌜ r ≡ wordSum (now (s .entry)) % wordModulus ⌝ }
 {
@@ -205,10 +195,22 @@ pub fn word_sum(s: &[u8]) -> u16
     while 1 < s.len() - i {
         let low = s[i];
         let high = s[i + 1];
-        sum = wrapping_add_u16(sum, numbers::u16_of(low, high));
+        sum = add_word(sum, numbers::u16_of(low, high));
         i += 2;
     }
-    wrapping_add_u16(sum, numbers::u16_at(s, i))
+    if i < s.len() {
+        let low = s[i];
+        return add_word(sum, numbers::u16_of(low, 0));
+    }
+    sum
+}
+
+// One line of the listing: a word added to the one 16-bit accumulator, which wraps. Where it held the true sum so far modulo 65,536, it then
+// holds the next one.
+fn add_word(sum: u16, word: u16) -> u16
+    ensures { λ r. ⌜ ((so-far : ℕ) → sum ≡ so-far % wordModulus → r ≡ (so-far + word) % wordModulus) ⌝ }
+{
+    wrapping_add_u16(sum, word)
 }
 
 // The file system GUID, bytes 16 to 31.

@@ -1,34 +1,32 @@
 -- Laws of reading and writing, in the form in which the code meets them: a part of the volume that was lent, changed and handed back.
 use Prim.Native.Nat.{ℕ, _+_, _-_, _≤_, _<_}
-use mathlib.Core.Path.{_≡_, refl, sym, _∙_}
+use mathlib.Core.Path.{_≡_, refl, sym, ap, _∙_}
 use mathlib.Core.Bool.{Bool, true, false, cond, _&&_}
 use mathlib.Core.List.{List, _++_}
-use native.Mathlib.Nat.{add-sub-cancel-left, mod-eq-of-lt}
+use native.Mathlib.Nat.{add-sub-cancel-left, mod-eq-of-lt, zero-add}
 use native.Mathlib.Omega.{arith}
 use borrow.Author.Tests.{leb-true, ltb-true}
 use lib.Bits.{bitAnd, bitOr, and-comm, and-mask, or-zero-l}
 use lib.Dec.{leb, ltb}
 use lib.ListN.{length, getD, take, drop, length-drop}
-use lib.Seq.{length-take-le, take-all, getD-take}
+use lib.Seq.{length-take-le, getD-take, ext-getD}
 use Rattle.volume.specs.Attributes.{flag, stickyWrite, erasePolarity}
 use Rattle.common.specs.Lists.{edit}
 use Rattle.block_service.specs.Access.{countMoved, writtenByte, erasedByte, changedByte, writeChange, keep, store}
-use Rattle.common.proofs.Edit.{within, edit-part, edit-same, edit-keep}
+use Rattle.moves.specs.Moved.{moved}
+use Rattle.moves.proofs.Moved.{moved-all, moved-same}
+use Rattle.common.proofs.Edit.{within, edit-part, edit-same, edit-keep, length-edit, getD-edit}
 
 -- a length of a part that runs from `at` to `at + n`
 pub part-length : (at n : ℕ) (v : List ℕ) → at + n ≤ length v → length (take (at + n - at) (drop at v)) ≡ n
 part-length at n v h = rw (add-sub-cancel-left at n) (length-take-le n (drop at v) (rw (length-drop at v) (omega arith)))
 
--- a read: the bytes of the stretch, copied to the front of the buffer
-pub read-back : (at n : ℕ) (v buffer after : List ℕ) → at + n ≤ length v
-    → after ≡ take (length (take (at + n - at) (drop at v))) (take (at + n - at) (drop at v)) ++ drop (length (take (at + n - at) (drop at v))) buffer
+-- a read: the bytes of the stretch, moved to the front of the buffer
+pub read-back : (at n : ℕ) (v buffer after : List ℕ) → at + n ≤ length v → n ≤ length buffer → after ≡ moved (take (at + n - at) (drop at v)) buffer
     → after ≡ take n (drop at v) ++ drop n buffer
-read-back at n v buffer after h e =
-    let all = take-all n (take n (drop at v)) (rw (part h) (omega arith)) in
-    rw (part-length at n v h, add-sub-cancel-left at n, all) at e
-  where
-    part : at + n ≤ length v → length (take n (drop at v)) ≡ n
-    part h = rw (add-sub-cancel-left at n) at (part-length at n v h)
+read-back at n v buffer after h room e =
+    let all = part-length at n v h in
+    e ∙ moved-all (take (at + n - at) (drop at v)) buffer (omega arith) ∙ rw (all, add-sub-cancel-left at n)
 
 -- the byte that a write changes at i, and those that it does not change
 stretch : (a at n : ℕ) (new : List ℕ) → n ≤ length new → (i x : ℕ)
@@ -100,6 +98,14 @@ module _ (a old new : ℕ) where
   pub written-or : flag a stickyWrite ≡ true → flag a erasePolarity ≡ false → writtenByte a old new ≡ bitOr old new
   unfolding writtenByte
   written-or e p = rw (e, p)
+
+-- a write that is not sticky leaves the data
+pub write-plain : (a : ℕ) (part new after : List ℕ) → length part ≡ length new → flag a stickyWrite ≡ false → after ≡ moved new part
+    → after ≡ edit (λ i x. writtenByte a x (getD new i 0)) 0 part
+write-plain a part new after l e p =
+    let f : ℕ → ℕ → ℕ = λ i x. writtenByte a x (getD new i 0) in
+    p ∙ moved-same new part (sym l) ∙ ext-getD 0 new (edit f 0 part) (sym (length-edit f 0 part ∙ l))
+    (λ i b. sym (getD-edit f 0 part i (omega arith) ∙ written-plain a (getD part i 0) (getD new (0 + i) 0) e ∙ ap (λ (k : ℕ). getD new k 0) (zero-add i)))
 
 -- a byte written over an erased one is the byte itself
 pub written-erased : (a x : ℕ) → x < 256 → writtenByte a (erasedByte a) x ≡ x

@@ -3,10 +3,11 @@ use Prim.Native.Nat.{ℕ, zero, suc, _+_, _-_, _*_, _/_, _%_, _≤_, _<_}
 use mathlib.Core.List.{List, [], _∷_, _++_, append-nil}
 use mathlib.Core.Path.{_≡_, refl, sym, ap, ap₂, _∙_}
 use native.Mathlib.Omega.{arith}
-use lib.ListN.{length, getD, length-append, List·getD-append, List·getD-eq-default}
-use lib.Seq.{getD-append-add}
+use native.Mathlib.Nat.{add-zero, add-sub-cancel-left}
+use lib.ListN.{length, getD, take, drop, take-append-drop, length-append, List·getD-append, List·getD-eq-default}
+use lib.Seq.{getD-append-add, getD-take, length-take-le}
 use Rattle.numbers.specs.LittleEndian.{le}
-use Rattle.numbers.proofs.LittleEndian.{le-same}
+use Rattle.numbers.proofs.LittleEndian.{le-same, le-skip}
 use Rattle.block_service.specs.Erase.{longsAt, listWords, wholeList}
 
 -- k words are k; word i of them stands 8 * i bytes behind the first; and they are those of the bytes that they take
@@ -27,6 +28,14 @@ longs-front zero s t at h = refl
 longs-front (suc k) s t at h =
     ap₂ (λ (x : ℕ) (l : List ℕ). x ∷ l) (le-same 8 (s ++ t) s at (λ i p q. List·getD-append s t 0 i (omega arith)))
     (longs-front k s t (at + 8) (omega arith))
+
+-- eight bytes lent by themselves are the same word
+pub le-here : (at : ℕ) (s : List ℕ) → at + 8 ≤ length s → le 8 (take (at + 8 - at) (drop at s)) 0 ≡ le 8 s at
+le-here at s h =
+    let long : length (take at s) ≡ at = length-take-le at s (omega arith) in
+    let same : le 8 (take at s ++ drop at s) (length (take at s) + 0) ≡ le 8 s at = rw (take-append-drop at s, long, add-zero) in
+    rw (add-sub-cancel-left at 8)
+    (le-same 8 (take 8 (drop at s)) (drop at s) 0 (λ i p q. getD-take 8 (drop at s) i 0 (omega arith)) ∙ sym (le-skip 8 (take at s) (drop at s) 0) ∙ same)
 
 -- a list of bytes has a word for each eight of them
 pub word-number : (s : List ℕ) → length (listWords s) ≡ length s / 8

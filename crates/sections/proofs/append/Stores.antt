@@ -5,11 +5,14 @@ use mathlib.Core.Path.{_≡_, refl, sym, ap, _∙_}
 use mathlib.Core.Bool.{Bool, true, false, cond}
 use mathlib.Core.List.{List, [], _∷_, _++_, append-assoc, append-nil}
 use mathlib.Core.Logic.{_⊎_, inl, inr}
+use native.Mathlib.Nat.{zero-add}
 use native.Mathlib.Omega.{arith}
 use borrow.Author.Tests.{eq-eqb, ne-eqb}
-use lib.ListN.{length, set, take, drop, replicate, length-append, length-drop, length-replicate, drop-of-length-le}
-use lib.Seq.{sets, length-sets, sets-eq, drop-drop, length-take-le, take-length}
+use lib.ListN.{length, take, drop, replicate, length-append, length-drop, length-replicate, drop-of-length-le}
+use lib.Seq.{sets, length-sets, sets-eq, drop-drop, length-take-le}
 use Rattle.common.proofs.Lists.{sets-append}
+use Rattle.moves.specs.Moved.{moved}
+use Rattle.moves.proofs.Moved.{moved-same}
 use Rattle.numbers.specs.LittleEndian.{leBytes}
 use Rattle.numbers.proofs.LittleEndian.{length-leBytes}
 use Rattle.sections.specs.Types.{commonHeader}
@@ -19,13 +22,13 @@ use Rattle.sections.specs.Append.{needsLong, leafHeader, usedAfter, leaf
 use Rattle.sections.specs.declared.header.Mode.{Mode}
 use Rattle.sections.specs.declared.header.Mode.the-variants.{Framework, Pi}
 
--- a copy into a part that is as long as it is a run of stores into the whole
-sets-part : (b l : List ℕ) (at n : ℕ) → n ≡ length b → at + n ≤ length l
-    → take at l ++ ((take (length b) b ++ drop (length b) (take n (drop at l))) ++ drop n (drop at l)) ≡ sets l at b
-sets-part b l at n e h =
-    let q : length (take n (drop at l)) ≡ n = length-take-le n (drop at l) (simp length-drop (omega arith)) in
-    let z : drop (length b) (take n (drop at l)) ≡ [] = drop-of-length-le (take n (drop at l)) {i = length b} (omega arith) in
-    rw (take-length, z, append-nil, drop-drop, e) (sym (sets-eq b l at (omega arith) ∙ append-assoc (take at l) b (drop (at + length b) l)))
+-- what is put over a part that is as long is a run of stores into the whole
+sets-part : (b l : List ℕ) (at n : ℕ) → n ≡ length b → at + n ≤ length l → take at l ++ (b ++ drop n (drop at l)) ≡ sets l at b
+sets-part b l at n e h = rw (drop-drop, e) (sym (sets-eq b l at (omega arith) ∙ append-assoc (take at l) b (drop (at + length b) l)))
+
+-- stores over a whole list
+sets-whole : (b l : List ℕ) → length b ≡ length l → sets l 0 b ≡ b
+sets-whole b l e = sets-eq b l 0 (omega arith) ∙ rw (zero-add, drop-of-length-le l {i = length b} (omega arith)) (append-nil b)
 
 zero-bytes : (n : ℕ) → leBytes n 0 ≡ replicate n 0
 unfolding leBytes
@@ -92,30 +95,40 @@ pub long-start : (header t m : ℕ) → header ≡ 8 → leafStart header t m �
 unfolding leafStart
 long-start header t m long = rw (eq-eqb header longHeader long)
 
--- a size and a type stored byte by byte are a short header stored
-pub short-stored : (l : List ℕ) (start header m size i j k t : ℕ) → (header ≡ 8 → ⊥) → size ≡ header + m → i ≡ start + 1 → j ≡ start + 2 → k ≡ start + 3
-    → set (set (set (set l start (size % 256)) i (size / 256 % 256)) j (size / 65536 % 256)) k t ≡ sets l start (leafStart header t m)
-unfolding leBytes
-short-stored l start header m size i j k t short se ie je ke =
-    let two : size / 65536 % 256 ≡ size / 256 / 256 % 256 = omega arith in
-    let a : i ≡ suc start = omega arith in
-    let b : j ≡ suc (suc start) = omega arith in
-    let c : k ≡ suc (suc (suc start)) = omega arith in
-    rw (short-start header t m short, ← se, two, a, b, c)
+-- a size field and a type stored one after another
+pub common-stored : (l l₁ l₂ : List ℕ) (field t : ℕ) → l₁ ≡ sets l 0 (leBytes 3 field) → l₂ ≡ sets l₁ 3 (leBytes 1 t) → t < 256
+    → l₂ ≡ sets l 0 (leBytes 3 field ++ t ∷ [])
+common-stored l l₁ l₂ field t e₁ e₂ small =
+    e₂ ∙ rw (one-byte t small) (then-sets (leBytes 3 field) (t ∷ []) l l₁ 0 3 e₁ (omega (arith, length-leBytes 3 field)))
 
--- FF FF FF, a type and a 32-bit size stored one after another are a long header stored
-pub long-stored : (l l₁ l₂ l₃ : List ℕ) (start at behind t m header size : ℕ)
-    → l₁ ≡ sets l start (leBytes 3 largestField) → l₂ ≡ sets l₁ at (leBytes 1 t) → l₃ ≡ sets l₂ behind (leBytes 4 size)
-    → header ≡ 8 → size ≡ header + m → at ≡ start + 3 → behind ≡ start + 4 → t < 256
-    → l₃ ≡ sets l start (leafStart header t m)
-long-stored l l₁ l₂ l₃ start at behind t m header size e₁ e₂ e₃ long se ae be small =
-    let first : List ℕ = leBytes 3 largestField ++ t ∷ [] in
-    let three = length-leBytes 3 largestField in
-    let n : length first ≡ 4 = length-append (leBytes 3 largestField) (t ∷ []) ∙ ap (λ (k : ℕ). k + 1) three in
-    let s₂ : l₂ ≡ sets l start first =
-    e₂ ∙ rw (one-byte t small) (then-sets (leBytes 3 largestField) (t ∷ []) l l₁ start at e₁ (omega arith)) in
-    e₃ ∙ then-sets first (leBytes 4 size) l l₂ start behind s₂ (omega arith)
-    ∙ rw (se, long-start header t m long) (ap (sets l start) (append-assoc (leBytes 3 largestField) (t ∷ []) (leBytes 4 (header + m))))
+common-length : (field t : ℕ) → length (leBytes 3 field ++ t ∷ []) ≡ 4
+unfolding leBytes
+common-length field t = refl
+
+-- the same over the first 4 bytes of a header, in the buffer
+common-there : (l part : List ℕ) (start n field t : ℕ) → part ≡ sets (take n (drop start l)) 0 (leBytes 3 field ++ t ∷ []) → n ≡ 4 → start + 4 ≤ length l
+    → take start l ++ (part ++ drop n (drop start l)) ≡ sets l start (leBytes 3 field ++ t ∷ [])
+common-there l part start n field t e four h =
+    let b : List ℕ = leBytes 3 field ++ t ∷ [] in
+    let lb : length b ≡ 4 = common-length field t in
+    let lp : length (take n (drop start l)) ≡ n = length-take-le n (drop start l) (simp length-drop (omega arith)) in
+    rw (e ∙ sets-whole b (take n (drop start l)) (omega arith)) (sets-part b l start n (omega arith) (omega arith))
+
+-- a short header is that; a long one has FF FF FF there and a 32-bit size behind it
+pub short-stored : (l part : List ℕ) (start n header m size t : ℕ) → part ≡ sets (take n (drop start l)) 0 (leBytes 3 size ++ t ∷ []) → n ≡ 4
+    → start + 4 ≤ length l → (header ≡ 8 → ⊥) → size ≡ header + m
+    → take start l ++ (part ++ drop n (drop start l)) ≡ sets l start (leafStart header t m)
+short-stored l part start n header m size t e four h short se =
+    common-there l part start n size t e four h ∙ rw (short-start header t m short, se)
+
+pub long-stored : (l part after : List ℕ) (start n behind header m size t : ℕ)
+    → part ≡ sets (take n (drop start l)) 0 (leBytes 3 largestField ++ t ∷ []) → n ≡ 4 → start + 4 ≤ length l
+    → after ≡ sets (take start l ++ (part ++ drop n (drop start l))) behind (leBytes 4 size) → header ≡ 8 → size ≡ header + m → behind ≡ start + 4
+    → after ≡ sets l start (leafStart header t m)
+unfolding leBytes
+long-stored l part after start n behind header m size t e four h ea long se be =
+    ea ∙ then-sets (leBytes 3 largestField ++ t ∷ []) (leBytes 4 size) l _ start behind (common-there l part start n largestField t e four h) be
+    ∙ rw (se, long-start header t m long)
 
 -- the padding and the leaf take the bytes up to the new used count
 pub length-leafStart : (header t m : ℕ) → (header ≡ 4) ⊎ (header ≡ 8) → length (leafStart header t m) ≡ header
@@ -136,7 +149,7 @@ length-added mode used t body =
 -- padding, header and body stored one after another, each where the one before ends, are the leaf stored with its padding
 pub leaf-stored : (l l₁ l₂ body w : List ℕ) (header used pad start t from k : ℕ) → (header ≡ 4) ⊎ (header ≡ 8)
     → l₁ ≡ sets l used (leBytes pad 0) → l₂ ≡ sets l₁ start (leafStart header t (length body))
-    → w ≡ take (length body) body ++ drop (length body) (take k (drop from l₂))
+    → w ≡ moved body (take k (drop from l₂))
     → start ≡ aligned used → pad ≡ start - used → from ≡ start + header → k ≡ length body → from + k ≤ length l
     → take from l₂ ++ (w ++ drop k (drop from l₂)) ≡ sets l used (addedWith header used t body)
 unfolding addedWith
@@ -151,7 +164,8 @@ leaf-stored l l₁ l₂ body w header used pad start t from k either e₁ e₂ e
     let l₂-length : length l₂ ≡ length l = ap length s₂ ∙ length-sets l used (z ++ h) in
     let padding : z ≡ replicate (aligned used - used) 0 = zero-bytes pad ∙ rw (pe, sa) in
     let bytes : (z ++ h) ++ body ≡ replicate (aligned used - used) 0 ++ (h ++ body) = rw padding (simp append-assoc) in
-    rw ew (sets-part body l₂ from k n (omega arith)) ∙ s₃ ∙ ap (sets l used) bytes
+    let lw : length (take k (drop from l₂)) ≡ k = length-take-le k (drop from l₂) (simp length-drop (omega arith)) in
+    rw (ew ∙ moved-same body (take k (drop from l₂)) (omega arith)) (sets-part body l₂ from k n (omega arith)) ∙ s₃ ∙ ap (sets l used) bytes
 
 -- the buffer with the padding and the leaf stored
 pub buffer-stored : (mode : Mode) (l : List ℕ) (used t : ℕ) (body : List ℕ) → usedAfter mode used (length body) ≤ length l

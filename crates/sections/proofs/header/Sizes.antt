@@ -156,28 +156,8 @@ module _ (mode : Mode) (left : ℕ) (s : List ℕ) (at : ℕ) where
           p ∙ rw (typed, n, ← long-size mode s at long, ← h) (sized-tested four (rw h eight))
 
 -- the tests of `testedOf`, in order, over what the type stands for
-module _ (left sectionType header size : ℕ) {info : TypeInfo} (known : info ≡ typeInfo sectionType) where
-  pub tested-202 : size < info .least + (header - 4) → Refused 202 ≡ testedOf left sectionType header size
-  unfolding testedOf
-  tested-202 small = rw (lt-ltb size (leastSize header sectionType) (rw known at small))
-
-  module _ (enough : info .least + (header - 4) ≤ size) where
-    is-enough : ltb size (leastSize header sectionType) ≡ false
-    is-enough = le-ltb size (leastSize header sectionType) (rw known at enough)
-
-    pub tested-203 : left < size → Refused 203 ≡ testedOf left sectionType header size
-    unfolding testedOf
-    tested-203 past = rw (is-enough, lt-ltb left size past)
-
-    module _ (fits : size ≤ left) where
-      pub tested-leaf : isHolder (info .class) ≡ false → Leaf sectionType header size ≡ testedOf left sectionType header size
-      unfolding testedOf
-      tested-leaf c =
-          let e : isHolder (typeInfo sectionType .class) ≡ false = rw known at c in
-          rw (is-enough, le-ltb left size fits, e)
-
-      pub tested-holder : isHolder (info .class) ≡ true → Holder sectionType header size ≡ testedOf left sectionType header size
-      unfolding testedOf
-      tested-holder c =
-          let e : isHolder (typeInfo sectionType .class) ≡ true = rw known at c in
-          rw (is-enough, le-ltb left size fits, e)
+pub tested-found : (left sectionType header size : ℕ) {info : TypeInfo} {least : ℕ} {r found : Size} → info ≡ typeInfo sectionType
+    → r ≡ cond (ltb size least) (Refused 202) (cond (ltb left size) (Refused 203) found) → least ≡ info .least + (header - 4)
+    → found ≡ cond (isHolder (info .class)) (Holder sectionType header size) (Leaf sectionType header size) → r ≡ testedOf left sectionType header size
+unfolding testedOf
+tested-found left sectionType header size known p l f = rw (l, f, known) at p

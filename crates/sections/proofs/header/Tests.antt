@@ -7,10 +7,9 @@ use mathlib.Core.Option.{Option, none, some}
 use native.Mathlib.Omega.{arith}
 use borrow.Author.Tests.{lt-ltb, le-ltb, eq-eqb, ne-eqb}
 use lib.Dec.{eqb, ltb}
-use lib.ListN.{length, getD}
+use lib.ListN.{length}
 use Rattle.common.specs.Refusals.{Row, row, firstRefusal}
 use Rattle.common.proofs.Refusals.{then-passed, then-refused}
-use Rattle.numbers.specs.LittleEndian.{le}
 use Rattle.sections.specs.Types.{compression, guidDefined, typeInfo}
 use Rattle.sections.specs.Header.{headerLength, sizeAt, typeAt, grown, leastSize, unpackedLength, compressionKind}
 use Rattle.sections.specs.Header.{dataOffset, attributes, isHolder, contentsAt, packed, wrongContents, sizeFaults, headFaults, sectionOf, sectionAt}
@@ -246,11 +245,6 @@ module _ (s : List ℕ) (at h z : ℕ) where
         let f : eqb (unpackedLength s (at + h)) (z - grown h 9) ≡ true = eq-eqb _ _ (rw told at w) in
         let n = eq-eqb (compressionKind s (at + h)) 0 k in
         holder-open _ _ _ _ _ holds fe ee (rw (n, f)) (sym c) (rw n)
-
--- attribute bit 0 is that of the lower byte
-pub lower-bit : (s : List ℕ) (fields : ℕ) → attributes s fields % 2 ≡ getD s (fields + 18) 0 % 2
-unfolding le
-lower-bit s fields = omega arith
 
 -- the GUID-defined section's own tests, over the data offset and the attributes that were read
 module _ (s : List ℕ) (at t h z : ℕ) (holds : isHolder (typeInfo t .class) ≡ true) (other : t ≡ compression → ⊥) {offset : ℕ} (read : offset ≡ dataOffset s (at + h)) where

@@ -11,7 +11,7 @@ use Rattle.sections.specs.Seek.{Seek, visited, halted, run}
 use Rattle.sections.specs.declared.header.Head.the-variants.{Fault, Closed, Open}
 use Rattle.sections.specs.declared.header.Mode.{Mode}
 use Rattle.sections.proofs.walk.Carried.{Ended, run-then}
-use Rattle.sections.proofs.walk.Padding.{padding-zero, padding-207}
+use Rattle.sections.proofs.walk.Padding.{padding-zero, padding-207, zeros-past}
 use Rattle.sections.proofs.walk.Starts.{walkFrom, walk-from-start, walk-end, walk-fault, walk-closed, walk-205, walk-open}
 
 module _ (mode : Mode) where
@@ -43,6 +43,13 @@ module _ (mode : Mode) where
         -- the walk stops at it, or goes on
         pub turn-closed-stop : Ended w b → b ≡ x
         turn-closed-stop ended = sym (turn-closed-any ∙ ended _)
+
+        -- it ends the stream
+        pub turn-closed-end : length s ≤ e → b ≡ x
+        unfolding run
+        turn-closed-end h =
+            let padded = padding-zero s base e (walkFrom mode n s base) (zeros-past s e (aligned e - e) h) in
+            sym (turn-closed-any ∙ ap (run w b) (padded ∙ walk-end mode n s base (aligned e) (omega arith)))
 
         pub turn-closed : {next : ℕ} → next ≡ aligned e → zeros s e (next - e) ≡ true → Going n s base w x b next
         turn-closed up z = record { same = rw up (rw (padding-zero s base e (walkFrom mode n s base) (rw up at z)) at turn-closed-any) }
@@ -80,6 +87,13 @@ module _ (mode : Mode) where
           -- it ended there
           pub turn-children : Ended w d → d ≡ x
           turn-children ended = sym (turn-open ∙ ended _)
+
+          -- it ends the stream
+          pub turn-open-end : length s ≤ e → d ≡ x
+          unfolding run
+          turn-open-end h =
+              let padded = padding-zero s base e (walkFrom mode n s base) (zeros-past s e (aligned e - e) h) in
+              sym (turn-open ∙ ap (run w d) (padded ∙ walk-end mode n s base (aligned e) (omega arith)))
 
           pub turn-open-next : {next : ℕ} → next ≡ aligned e → zeros s e (next - e) ≡ true → Going n s base w x d next
           turn-open-next up z = record { same = rw up (rw (padding-zero s base e (walkFrom mode n s base) (rw up at z)) at turn-open) }

@@ -24,17 +24,17 @@ add-from c = omega (arith, room c)
 add-to : tie.Need-add-to
 add-to c = omega (arith, room c)
 
-sub-copy : tie.Need-sub-copy
-sub-copy c = search needs
+sub-move-bytes : tie.Need-sub-move-bytes
+sub-move-bytes c = search needs
 
-part-copy-start : tie.Need-part-copy-start
-part-copy-start c = search needs
+part-move-bytes-start : tie.Need-part-move-bytes-start
+part-move-bytes-start c = search needs
 
-part-copy-end : tie.Need-part-copy-end
-part-copy-end c = omega (arith, room c)
+part-move-bytes-end : tie.Need-part-move-bytes-end
+part-move-bytes-end c = omega (arith, room c)
 
-copy-requires : tie.Need-copy-requires
-copy-requires c κs = search needs
+move-bytes-requires : tie.Need-move-bytes-requires
+move-bytes-requires c κs = search needs
 
 same-length : tie.Need-same-length
 same-length c = search needs
@@ -44,7 +44,7 @@ returns-2 c =
     let copied = c .before .before in
     let asked = copied .before .before .before in
     let a = entry asked .args in
-    read-back (a .start + a .offset) (a .count) _ _ _ (room asked) (copied .copy .ensures .1)
+    read-back (a .start + a .offset) (a .count) _ _ _ (room asked) (search needs) (copied .move-bytes .ensures)
 
 pub load-spec : {M : Type 1} → statement M
 load-spec =
@@ -53,9 +53,9 @@ load-spec =
     returns
     add-from
     add-to
-    sub-copy
-    part-copy-start
-    part-copy-end
-    copy-requires
+    sub-move-bytes
+    part-move-bytes-start
+    part-move-bytes-end
+    move-bytes-requires
     same-length
     returns-2)

@@ -1,73 +1,38 @@
--- `block_service::access::write_part` meets its contract: the first i bytes are written, the others still to be.
-use Prim.Native.Nat.{_-_, _≤_}
+-- `block_service::access::write_part` meets its contract.
 use mathlib.Core.Path.{_≡_, sym, _∙_}
 use native.Mathlib.Omega.{arith}
 use borrow.Author.Needs.{needs}
-use lib.ListN.{length, getD, length-set}
-use Rattle.common.specs.Lists.{edit}
-use Rattle.common.proofs.Edit.{editedTo, edit-start, edit-next, edit-done}
-use Rattle.block_service.specs.Access.{writtenByte}
+use borrow.Author.Tests.{not-true, not-false}
+use denote.Ref.{now}
+use Rattle.block_service.proofs.access.Moves.{write-plain}
 use Rattle.block_service.proofs.access.write_part.Statement.{statement}
 use Rattle.block_service.proofs.access.write_part.Tie as tie
 
-abbrev Inv-loop : tie.InvT-loop
-Inv-loop attributes part₀ new i₀ part i =
-    (i ≤ length part) × (length part ≡ length part₀) × (length part₀ ≡ length new)
-    × (editedTo (λ j old. writtenByte attributes old (getD new j 0)) i part
-    ≡ edit (λ j old. writtenByte attributes old (getD new j 0)) 0 part₀)
+is-set-requires : tie.Need-is-set-requires
+is-set-requires c κs = search needs
 
-abbrev μ-loop : tie.MeasureT-loop
-μ-loop attributes part₀ new i₀ part i = length part - i
+merge-part-requires : tie.Need-merge-part-requires
+merge-part-requires c κs = search needs
 
-loop-holds : tie.Need-loop-holds Inv-loop μ-loop
-loop-holds c = (search needs, search needs, search needs, edit-start _ _)
-
-slice-read-written-byte : tie.Need-slice-read-written-byte Inv-loop μ-loop
-slice-read-written-byte c = search needs
-
-shared-slice-read-written-byte : tie.Need-shared-slice-read-written-byte Inv-loop μ-loop
-shared-slice-read-written-byte c = search needs
-
-written-byte-requires : tie.Need-written-byte-requires Inv-loop μ-loop
-written-byte-requires c κs = search needs
-
-slice-write-part : tie.Need-slice-write-part Inv-loop μ-loop
-slice-write-part c = search needs
-
-add-i : tie.Need-add-i Inv-loop μ-loop
-add-i c = search needs
-
-loop-less : tie.Need-loop-less Inv-loop μ-loop
-loop-less c = simp length-set (omega arith)
-
-loop-again : tie.Need-loop-again Inv-loop μ-loop
-loop-again c =
-    let turn = c .before .before .before .before in (
-      simp length-set (search needs),
-      simp length-set (search needs),
-      search needs,
-      edit-next _ _ _ _ (search needs) (c .written-byte .ensures) ∙ turn .loop .inv .3,
-    )
-
-same-length : tie.Need-same-length Inv-loop μ-loop
+same-length : tie.Need-same-length
 same-length c = search needs
 
-returns : tie.Need-returns Inv-loop μ-loop
-returns c = sym (edit-done _ _ _ (search needs)) ∙ c .before .loop .inv .3
+returns : tie.Need-returns
+returns c = c .before .before .merge-part .ensures
+
+move-bytes-requires : tie.Need-move-bytes-requires
+move-bytes-requires c κs = search needs
+
+same-length-2 : tie.Need-same-length-2
+same-length-2 c = search needs
+
+returns-2 : tie.Need-returns-2
+returns-2 c =
+    let moved = c .before .before in
+    let plain = moved .before .before in
+    let entry = plain .before .before .before .before in
+    let a = entry .args in
+    write-plain (a .attributes) (now (a .part)) (now (a .new)) _ (entry .pre) (sym (plain .before .is-set .ensures) ∙ plain .if1 .left) (moved .move-bytes .ensures)
 
 pub write-part-spec : {M : Type 1} → statement M
-write-part-spec =
-    tie.close
-    (tie.spec
-    Inv-loop
-    μ-loop
-    loop-holds
-    slice-read-written-byte
-    shared-slice-read-written-byte
-    written-byte-requires
-    slice-write-part
-    add-i
-    loop-less
-    loop-again
-    same-length
-    returns)
+write-part-spec = tie.close (tie.spec is-set-requires merge-part-requires same-length returns move-bytes-requires same-length-2 returns-2)

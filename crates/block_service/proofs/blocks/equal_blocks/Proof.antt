@@ -26,9 +26,6 @@ add-i c = search needs
 loop-holds : tie.Need-loop-holds Inv-loop μ-loop
 loop-holds c = search needs
 
-add-next : tie.Need-add-next Inv-loop μ-loop
-add-next c = search needs
-
 mul-wide : tie.Need-mul-wide Inv-loop μ-loop
 mul-wide c = search needs
 
@@ -84,6 +81,9 @@ add-count c =
     let more = goes-on read (c .wide2 .result) (c .wide2 .ensures .0) (search needs) in
     omega (arith, more, all (turn read), equal-within (words read) (turn read .before .before .args .entry + 1) (len read))
 
+add-i-2 : tie.Need-add-i-2 Inv-loop μ-loop
+add-i-2 c = search needs
+
 loop-less : tie.Need-loop-less Inv-loop μ-loop
 loop-less c = search needs
 
@@ -92,22 +92,18 @@ loop-again c =
     let read = c .before .before .before in
     omega (arith, goes-on read (c .wide2 .result) (c .wide2 .ensures .0) (search needs))
 
-loop-less-2 : tie.Need-loop-less-2 Inv-loop μ-loop
-loop-less-2 c = search needs
-
--- the entry has another: nothing from it on is counted
-loop-again-2 : tie.Need-loop-again-2 Inv-loop μ-loop
-loop-again-2 c =
-    let read = c .before in
-    let w = words read in
-    let other = equal-stop w (turn read .loop .i) _ (read .wide .result) (search needs) refl (read .wide .ensures .0) (len read) (search needs) in
-    omega (arith, other, equal-end w (length w / 2) (len read) (omega arith))
-
 returns : tie.Need-returns Inv-loop μ-loop
 returns c =
     let last = c .before in
     let start = last .before .before in
     omega (arith, all last, equal-end (now (start .args .words)) (last .loop .i) (start .args .len) (search needs))
+
+-- an entry of another length: nothing from it on is counted
+returns-2 : tie.Need-returns-2 Inv-loop μ-loop
+returns-2 c =
+    let read = c .before in
+    let other = equal-stop (words read) (turn read .loop .i) _ (read .wide .result) (search needs) refl (read .wide .ensures .0) (len read) (search needs) in
+    omega (arith, other, all (turn read))
 
 pub equal-blocks-spec : {M : Type 1} → statement M
 equal-blocks-spec =
@@ -117,7 +113,6 @@ equal-blocks-spec =
     μ-loop
     add-i
     loop-holds
-    add-next
     mul-wide
     add-wide
     mul-wide-2
@@ -128,8 +123,8 @@ equal-blocks-spec =
     shared-slice-read-wide-2
     wide-requires-2
     add-count
+    add-i-2
     loop-less
     loop-again
-    loop-less-2
-    loop-again-2
-    returns)
+    returns
+    returns-2)

@@ -11,7 +11,7 @@ use denote.Ref.{now}
 use lib.ListN.{length}
 use lib.Seq.{length-take-le}
 use Rattle.common.specs.Refusals.{Row, firstRefusal, row}
-use Rattle.common.proofs.Refusals.{row-passed, front-passed}
+use Rattle.common.proofs.Refusals.{row-passed}
 use Rattle.volume.specs.Attributes.{writeStatus}
 use Rattle.volume.specs.BlockMap.{blocks}
 use Rattle.volume.specs.State.{stateWith, mapOf}
@@ -19,58 +19,62 @@ use Rattle.volume.specs.declared.state.State.{State}
 use Rattle.volume.proofs.state.Lawful.{lent-bytes, lent-within}
 use Rattle.block_service.specs.Erase.{goodList, reaches, wholeList}
 use Rattle.block_service.specs.Service.{eraseBlocks, erasedAnswer, bufferOf, lentRefusals, refusals, refusalOf}
-use Rattle.block_service.proofs.service.Steps.{refused-step, erase-step, Begun, begun, lent-then, lent-both}
+use Rattle.block_service.proofs.service.Steps.{refused-step, erase-step, Begun, begun, lent-first, lent-then}
 use Rattle.block_service.proofs.service.erase.Statement.{statement}
 use Rattle.block_service.proofs.service.erase.Tie as tie
 
--- the places: what was lent, where the first rows were told, and where all had passed
+-- the places: what was lent, where the first rows were told and had passed, and where those of the list were and had
 abbrev entry : tie.After-lent-refusal → tie.Start
 entry c = c .before .before .before .before .before .before
 
-abbrev first : tie.After-list-refusal → tie.After-lent-refusal
-first c = c .before .before .before
+abbrev first : tie.After-enum-told → tie.After-lent-refusal
+first c = c .before .before
 
-abbrev listed : tie.After-enum-told → tie.After-list-refusal
-listed c = c .before .before .before
+abbrev allowed : tie.After-list-refusal → tie.After-enum-told
+allowed c = c .before .before .before
+
+abbrev listed : tie.After-enum-told2 → tie.After-list-refusal
+listed c = c .before .before
 
 map-length : (c : tie.Start) → length (c .args .st .map) ≡ 64
 map-length c = search needs
 
 -- the state, the rows of the lent volume and those of the list
-abbrev state : tie.After-list-refusal → State
-state c = entry (first c) .args .st
+abbrev state : tie.After-lent-refusal → State
+state c = entry c .args .st
 
-abbrev words : tie.After-list-refusal → List ℕ
-words c = wholeList (now (entry (first c) .args .list)) (now (entry (first c) .args .tail))
+abbrev words : tie.After-lent-refusal → List ℕ
+words c = wholeList (now (entry c .args .list)) (now (entry c .args .tail))
 
-abbrev lentRows : tie.After-list-refusal → List Row
-lentRows c = lentRefusals (state c) (length (now (entry (first c) .args .volume))) writeStatus
+abbrev lentRows : tie.After-lent-refusal → List Row
+lentRows c = lentRefusals (state c) (length (now (entry c .args .volume))) writeStatus
 
-abbrev listRows : tie.After-list-refusal → List Row
+abbrev listRows : tie.After-lent-refusal → List Row
 listRows c = row (not (goodList (blocks (mapOf (state c))) (words c))) 2 ∷ row (reaches (state c .protected) (words c)) 15 ∷ []
 
--- both as they were told, and all of them, the first before the others
-told : (c : tie.After-list-refusal) → refusalOf (first c .lent-refusal .result) ≡ firstRefusal (lentRows c)
+-- both as they were told
+told : (c : tie.After-lent-refusal) → refusalOf (c .lent-refusal .result) ≡ firstRefusal (lentRows c)
 unfolding stateWith
-told c = first c .lent-refusal .ensures (state c .guid)
+told c = c .lent-refusal .ensures (state c .guid)
 
-judged : (c : tie.After-list-refusal) → refusalOf (c .list-refusal .result) ≡ firstRefusal (listRows c)
+judged : (c : tie.After-list-refusal) → refusalOf (c .list-refusal .result) ≡ firstRefusal (listRows (first (allowed c)))
 unfolding mapOf
 judged c = rw (c .before .block-count .ensures) at (c .list-refusal .ensures)
 
-whole : (c : tie.After-first-of) → refusalOf (c .first-of .result) ≡ firstRefusal (lentRows (c .before) ++ listRows (c .before))
-whole c = (rw (told (c .before), judged (c .before)) at (c .first-of .ensures)) ∙ lent-both _ _ _ _
-
--- where they passed, the state is lawful, the volume is lent whole, and the list is good
-passes : (c : tie.After-enum-told) → firstRefusal (lentRows (listed c) ++ listRows (listed c)) ≡ none
+-- where the first passed, the state is lawful and the volume is lent whole; where all did, the list is good
+lent : (c : tie.After-enum-told) → firstRefusal (lentRows (first c)) ≡ none
 unfolding refusalOf
-passes c = sym (whole (c .before .before)) ∙ ap refusalOf (c .enum-told .given .1)
+lent c = sym (told (first c)) ∙ ap refusalOf (c .enum-told .given .1)
 
-known : (c : tie.After-enum-told) → Begun (state (listed c)) (length (now (entry (first (listed c)) .args .volume))) writeStatus
-known c = begun _ _ _ (front-passed (lentRows (listed c)) _ (passes c))
+known : (c : tie.After-enum-told) → Begun (state (first c)) (length (now (entry (first c) .args .volume))) writeStatus
+known c = begun _ _ _ (lent c)
 
-good : (c : tie.After-enum-told) → firstRefusal (listRows (listed c)) ≡ none
-good c = sym (lent-then _ _ _ _ (front-passed (lentRows (listed c)) _ (passes c))) ∙ passes c
+good : (c : tie.After-enum-told2) → firstRefusal (listRows (first (allowed (listed c)))) ≡ none
+unfolding refusalOf
+good c = sym (judged (listed c)) ∙ ap refusalOf (c .enum-told2 .given .1)
+
+passes : (c : tie.After-enum-told2) → firstRefusal (lentRows (first (allowed (listed c))) ++ listRows (first (allowed (listed c)))) ≡ none
+passes c = lent-then _ _ _ _ (lent (allowed (listed c))) ∙ good c
 
 lent-refusal-requires : tie.Need-lent-refusal-requires
 lent-refusal-requires c κs = search needs
@@ -81,29 +85,40 @@ block-count-requires c κs = search needs
 list-refusal-requires : tie.Need-list-refusal-requires
 list-refusal-requires c κs = search needs
 
-first-of-requires : tie.Need-first-of-requires
-first-of-requires c κs = search needs
-
-enum-known-refusal : tie.Need-enum-known-refusal
-enum-known-refusal c = search needs
+enum-known-lent : tie.Need-enum-known-lent
+enum-known-lent c = search needs
 
 returns : tie.Need-returns
 unfolding erasedAnswer bufferOf refusals refusalOf
-returns c = refused-step _ _ (eraseBlocks _) _ (sym (whole (c .before .before .before)) ∙ ap refusalOf (c .before .refusal .given .1))
+returns c =
+    let asked = c .before .before .before in
+    refused-step _ _ (eraseBlocks _) _ (lent-first _ _ _ _ _ (sym (told asked) ∙ ap refusalOf (c .before .lent .given .1)))
 
 enum-told : tie.Need-enum-told
 enum-told c = search needs
 
+enum-known-listed : tie.Need-enum-known-listed
+enum-known-listed c = search needs
+
+returns-2 : tie.Need-returns-2
+unfolding erasedAnswer bufferOf refusals refusalOf
+returns-2 c =
+    let asked = c .before .before .before in
+    refused-step _ _ (eraseBlocks _) _ (lent-then _ _ _ _ (lent (allowed asked)) ∙ sym (judged asked) ∙ ap refusalOf (c .before .listed .given .1))
+
+enum-told-2 : tie.Need-enum-told-2
+enum-told-2 c = search needs
+
 mul-end : tie.Need-mul-end
-mul-end c = omega (arith, known (c .before) .lawful .entries)
+mul-end c = omega (arith, known (allowed (listed (c .before))) .lawful .entries)
 
 array-share-prefix-map : tie.Need-array-share-prefix-map
-array-share-prefix-map c = omega (arith, map-length (entry (first (listed (c .before)))), known (c .before) .lawful .entries)
+array-share-prefix-map c = omega (arith, map-length (entry (first (allowed (listed (c .before))))), known (allowed (listed (c .before))) .lawful .entries)
 
 slice-aggregate-erase-list : tie.Need-slice-aggregate-erase-list
 slice-aggregate-erase-list c =
     let passed = c .before .before in
-    sym (length-take-le _ _ (omega (arith, map-length (entry (first (listed passed))), known passed .lawful .entries)))
+    sym (length-take-le _ _ (omega (arith, map-length (entry (first (allowed (listed passed)))), known (allowed (listed passed)) .lawful .entries)))
 
 erased-byte-requires : tie.Need-erased-byte-requires
 erased-byte-requires c κs = search needs
@@ -112,16 +127,16 @@ erase-list-requires : tie.Need-erase-list-requires
 unfolding mapOf
 erase-list-requires c κs =
     let passed = c .before .before .before .before in
-    let b = known passed in
+    let b = known (allowed (listed passed)) in
     let k = b .lawful in
     (lent-bytes _ k, (lent-within _ k _ (b .long), not-false _ (row-passed _ _ (good passed) .0)))
 
 same-length : tie.Need-same-length
 same-length c = search needs
 
-returns-2 : tie.Need-returns-2
+returns-3 : tie.Need-returns-3
 unfolding erasedAnswer bufferOf refusals mapOf
-returns-2 c =
+returns-3 c =
     let erased = c .before .before in
     let passed = erased .before .before .before .before .before in
     erase-step _ _ _ _ _ (passes passed) (erased .before .erased-byte .ensures) (erased .erase-list .ensures)
@@ -131,16 +146,18 @@ erase-spec =
     tie.close
     (tie.spec
     lent-refusal-requires
-    block-count-requires
-    list-refusal-requires
-    first-of-requires
-    enum-known-refusal
+    enum-known-lent
     returns
     enum-told
+    block-count-requires
+    list-refusal-requires
+    enum-known-listed
+    returns-2
+    enum-told-2
     mul-end
     array-share-prefix-map
     slice-aggregate-erase-list
     erased-byte-requires
     erase-list-requires
     same-length
-    returns-2)
+    returns-3)

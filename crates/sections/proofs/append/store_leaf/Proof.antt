@@ -25,17 +25,17 @@ add-from c = search needs
 add-end : tie.Need-add-end
 add-end c = search needs
 
-sub-copy : tie.Need-sub-copy
-sub-copy c = search needs
+sub-move-bytes : tie.Need-sub-move-bytes
+sub-move-bytes c = search needs
 
-part-copy-start : tie.Need-part-copy-start
-part-copy-start c = search needs
+part-move-bytes-start : tie.Need-part-move-bytes-start
+part-move-bytes-start c = search needs
 
-part-copy-end : tie.Need-part-copy-end
-part-copy-end c = search needs
+part-move-bytes-end : tie.Need-part-move-bytes-end
+part-move-bytes-end c = search needs
 
-copy-requires : tie.Need-copy-requires
-copy-requires c κs = search needs
+move-bytes-requires : tie.Need-move-bytes-requires
+move-bytes-requires c κs = search needs
 
 same-length : tie.Need-same-length
 same-length c = search needs
@@ -49,7 +49,7 @@ returns c =
     let entry = aligned .before .before .before in
     let from = aligned .aligned .result + entry .args .header in
     leaf-stored _ _ _ _ _ _ _ _ _ _ from (from + length (now (entry .args .body)) - from) (entry .pre .0) (padded .store .ensures)
-    (headed .store-header .ensures) (copied .copy .ensures .1) (aligned .aligned .ensures) (search needs) (search needs) (search needs) (search needs)
+    (headed .store-header .ensures) (copied .move-bytes .ensures) (aligned .aligned .ensures) (search needs) (search needs) (search needs) (search needs)
 
 pub store-leaf-spec : {M : Type 1} → statement M
 store-leaf-spec =
@@ -61,9 +61,9 @@ store-leaf-spec =
     store-header-requires
     add-from
     add-end
-    sub-copy
-    part-copy-start
-    part-copy-end
-    copy-requires
+    sub-move-bytes
+    part-move-bytes-start
+    part-move-bytes-end
+    move-bytes-requires
     same-length
     returns)

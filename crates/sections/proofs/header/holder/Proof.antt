@@ -3,7 +3,7 @@ use Prim.Native.Nat.{_+_}
 use mathlib.Core.Path.{_∙_}
 use native.Mathlib.Omega.{arith}
 use Rattle.numbers.proofs.LittleEndian.{le-two}
-use Rattle.sections.proofs.header.Tests.{lies-guid, lower-bit, guid-204-low, guid-204-high, guid-packed, guid-open}
+use Rattle.sections.proofs.header.Tests.{lies-guid, guid-204-low, guid-204-high, guid-packed, guid-open}
 use borrow.Author.Needs.{needs}
 use denote.Ref.{now}
 use Rattle.sections.proofs.header.holder.Statement.{statement}
@@ -69,27 +69,45 @@ add-from c = search needs
 add-end : tie.Need-add-end
 add-end c = search needs
 
-add-if4 : tie.Need-add-if4
-add-if4 c = search needs
+add-u16-of-4 : tie.Need-add-u16-of-4
+add-u16-of-4 c = search needs
 
-shared-slice-read-if4 : tie.Need-shared-slice-read-if4
-shared-slice-read-if4 c =
+shared-slice-read-u16-of-3 : tie.Need-shared-slice-read-u16-of-3
+shared-slice-read-u16-of-3 c =
     let start = c .before .before .before .before .before .before .before .before in
     let w = lies-guid (start .pre) (search needs) in
     omega arith
 
+add-u16-of-5 : tie.Need-add-u16-of-5
+add-u16-of-5 c = search needs
+
+add-u16-of-6 : tie.Need-add-u16-of-6
+add-u16-of-6 c = search needs
+
+shared-slice-read-u16-of-4 : tie.Need-shared-slice-read-u16-of-4
+shared-slice-read-u16-of-4 c =
+    let start = c .before .before .before .before .before .before .before .before .before in
+    let w = lies-guid (start .pre) (search needs) in
+    omega arith
+
+u16-of-requires-2 : tie.Need-u16-of-requires-2
+u16-of-requires-2 c κs = search needs
+
+-- the data offset and the attributes, each from its two bytes
 returns-4 : tie.Need-returns-4
 returns-4 c =
-    let read = c .before .before .before .before in
+    let tested = c .before in
+    let read = tested .before .before .before .before .before in
     let start = read .before .before .before .before .before in
-    let bit = lower-bit (now (start .args .s)) (start .args .at + start .args .header) in
+    let told = tested .u16-of2 .ensures ∙ le-two (now (start .args .s)) _ _ (omega arith) in
     guid-packed _ _ _ _ _ (start .pre .holds) (search needs) (read .u16-of .ensures ∙ le-two _ _ _ (omega arith)) (search needs) (search needs) (omega arith) (search needs) (search needs)
 
 returns-5 : tie.Need-returns-5
 returns-5 c =
-    let read = c .before .before .before .before in
+    let tested = c .before in
+    let read = tested .before .before .before .before .before in
     let start = read .before .before .before .before .before in
-    let bit = lower-bit (now (start .args .s)) (start .args .at + start .args .header) in
+    let told = tested .u16-of2 .ensures ∙ le-two (now (start .args .s)) _ _ (omega arith) in
     guid-open _ _ _ _ _ (start .pre .holds) (search needs) (read .u16-of .ensures ∙ le-two _ _ _ (omega arith)) (search needs) (search needs) (λ e. omega arith)
     (search needs) (search needs) (search needs)
 
@@ -113,7 +131,11 @@ holder-spec =
     returns-3
     add-from
     add-end
-    add-if4
-    shared-slice-read-if4
+    add-u16-of-4
+    shared-slice-read-u16-of-3
+    add-u16-of-5
+    add-u16-of-6
+    shared-slice-read-u16-of-4
+    u16-of-requires-2
     returns-4
     returns-5)

@@ -3,7 +3,7 @@ use mathlib.Core.Path.{_≡_, ap}
 use native.Mathlib.Omega.{arith}
 use Rattle.sections.specs.Types.{typeInfo}
 use Rattle.sections.specs.declared.types.TypeInfo.{TypeInfo}
-use Rattle.sections.proofs.header.Sizes.{tested-202, tested-203, tested-leaf, tested-holder}
+use Rattle.sections.proofs.header.Sizes.{tested-found}
 use Rattle.sections.proofs.types.Rows.{least-range}
 use borrow.Author.Needs.{needs}
 use Rattle.sections.proofs.header.tested.Statement.{statement}
@@ -22,29 +22,38 @@ add-least c =
     ap (λ (i : TypeInfo). i .least) (c .before .type-info .ensures) in
     omega arith
 
-returns : tie.Need-returns
-returns c = let info = c .before .before in tested-202 _ _ _ _ (info .type-info .ensures) (search needs)
-
-returns-2 : tie.Need-returns-2
-returns-2 c = let info = c .before .before .before in tested-203 _ _ _ _ (info .type-info .ensures) (search needs) (search needs)
-
 enum-told : tie.Need-enum-told
 enum-told c = search needs
+
+fitting-requires : tie.Need-fitting-requires
+fitting-requires c κs = search needs
 
 enum-told-2 : tie.Need-enum-told-2
 enum-told-2 c = search needs
 
+fitting-requires-2 : tie.Need-fitting-requires-2
+fitting-requires-2 c κs = search needs
+
 enum-told-3 : tie.Need-enum-told-3
 enum-told-3 c = search needs
 
+fitting-requires-3 : tie.Need-fitting-requires-3
+fitting-requires-3 c κs = search needs
+
+returns : tie.Need-returns
+returns c =
+    let told = c .before in
+    tested-found _ _ _ _ (told .before .before .before .type-info .ensures) (c .fitting .ensures) (search needs) (rw (told .enum-told .given .1))
+
+returns-2 : tie.Need-returns-2
+returns-2 c =
+    let told = c .before in
+    tested-found _ _ _ _ (told .before .before .before .type-info .ensures) (c .fitting2 .ensures) (search needs) (rw (told .enum-told2 .given .1))
+
 returns-3 : tie.Need-returns-3
-returns-3 c = let info = c .before .before .before .before .before in tested-holder _ _ _ _ (info .type-info .ensures) (search needs) (search needs) (rw (c .enum-told .given .1))
-
-returns-4 : tie.Need-returns-4
-returns-4 c = let info = c .before .before .before .before .before in tested-leaf _ _ _ _ (info .type-info .ensures) (search needs) (search needs) (rw (c .enum-told2 .given .1))
-
-returns-5 : tie.Need-returns-5
-returns-5 c = let info = c .before .before .before .before .before in tested-leaf _ _ _ _ (info .type-info .ensures) (search needs) (search needs) (rw (c .enum-told3 .given .1))
+returns-3 c =
+    let told = c .before in
+    tested-found _ _ _ _ (told .before .before .before .type-info .ensures) (c .fitting3 .ensures) (search needs) (rw (told .enum-told3 .given .1))
 
 pub tested-spec : {M : Type 1} → statement M
 tested-spec =
@@ -53,11 +62,12 @@ tested-spec =
     type-info-requires
     sub-least
     add-least
+    enum-told
+    fitting-requires
+    enum-told-2
+    fitting-requires-2
+    enum-told-3
+    fitting-requires-3
     returns
     returns-2
-    enum-told
-    enum-told-2
-    enum-told-3
-    returns-3
-    returns-4
-    returns-5)
+    returns-3)

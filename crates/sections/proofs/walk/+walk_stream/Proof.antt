@@ -16,8 +16,8 @@ use Rattle.sections.specs.Walk.{walk}
 use Rattle.sections.proofs.header.Cases.{fault-number}
 use Rattle.sections.proofs.header.Extent.{closed-within, open-within}
 use Rattle.sections.proofs.walk.Carried.{ended, carried-fault}
-use Rattle.sections.proofs.walk.Turns.{Going, going-start, going-end, turn-fault, turn-closed-stop, turn-closed, turn-closed-207, turn-205, turn-open-stop}
-use Rattle.sections.proofs.walk.Turns.{turn-children, turn-open-next, turn-open-207}
+use Rattle.sections.proofs.walk.Turns.{Going, going-start, going-end, turn-fault, turn-closed-stop, turn-closed-end, turn-closed, turn-closed-207, turn-205, turn-open-stop}
+use Rattle.sections.proofs.walk.Turns.{turn-children, turn-open-end, turn-open-next, turn-open-207}
 use Rattle.sections.proofs.walk.+walk_stream.{statement}
 use Rattle.sections.proofs.walk.+walk_stream.Tie.{close}
 use Rattle.sections.proofs.walk.walk_stream.Reads as own
@@ -109,9 +109,19 @@ returns-2 t c =
           (rw (c .if1 .taken) at (met .visit .ensures .1)) (search needs) (search needs) (ended _ _ _ (λ z. omega arith)),
     )
 
+returns-3 : (t : ℕ) → lts.Need-returns-3 (R t) (At t) own.Post Inv μ
+returns-3 t c =
+    let met = c .before .before in
+    let closed = met .before .before .before in
+    let turn = closed .before .before .before in (
+      met .visit .ensures .0,
+      turn-closed-end _ (turn .before .loop .inv .1) (search needs) (sym (closed .before .before .read-head .ensures) ∙ closed .head2 .given .1)
+          (rw (c .before .if1 .left) at (met .visit .ensures .1)) (search needs) (search needs) (search needs),
+    )
+
 aligned-requires : (t : ℕ) → lts.Need-aligned-requires (R t) (At t) own.Post Inv μ
 aligned-requires t c κs =
-    let closed = c .before .before .before .before in
+    let closed = c .before .before .before .before .before in
     let w = closed-within _ _ _ (sym (closed .before .before .read-head .ensures) ∙ closed .head2 .given .1) in
     omega arith
 
@@ -121,22 +131,22 @@ sub-zero-bytes t c = search needs
 zero-bytes-requires : (t : ℕ) → lts.Need-zero-bytes-requires (R t) (At t) own.Post Inv μ
 zero-bytes-requires t c κs = search needs
 
-returns-3 : (t : ℕ) → lts.Need-returns-3 (R t) (At t) own.Post Inv μ
-returns-3 t c =
+returns-4 : (t : ℕ) → lts.Need-returns-4 (R t) (At t) own.Post Inv μ
+returns-4 t c =
     let next = c .before .before in
-    let met = next .before .before in
+    let met = next .before .before .before in
     let closed = met .before .before .before in
     let turn = closed .before .before .before in (
       met .visit .ensures .0,
       turn-closed-207 _ (turn .before .loop .inv .1) (search needs) (sym (closed .before .before .read-head .ensures) ∙ closed .head2 .given .1)
-          (rw (next .before .if1 .left) at (met .visit .ensures .1)) (search needs) (search needs) (next .aligned .ensures)
-          (sym (c .before .zero-bytes .ensures) ∙ not-true _ (c .if2 .taken)) (carried-fault _ _ (omega arith)),
+          (rw (next .before .before .if1 .left) at (met .visit .ensures .1)) (search needs) (search needs) (next .aligned .ensures)
+          (sym (c .before .zero-bytes .ensures) ∙ not-true _ (c .if3 .taken)) (carried-fault _ _ (omega arith)),
     )
 
 loop-less : (t : ℕ) → lts.Need-loop-less (R t) (At t) own.Post Inv μ
 loop-less t c =
     let next = c .before .before in
-    let closed = next .before .before .before .before .before in
+    let closed = next .before .before .before .before .before .before in
     let w = closed-within _ _ _ (sym (closed .before .before .read-head .ensures) ∙ closed .head2 .given .1) in
     let up = next .aligned .ensures in
     omega arith
@@ -144,20 +154,20 @@ loop-less t c =
 loop-again : (t : ℕ) → lts.Need-loop-again (R t) (At t) own.Post Inv μ
 loop-again t c =
     let next = c .before .before in
-    let met = next .before .before in
+    let met = next .before .before .before in
     let closed = met .before .before .before in
     let turn = closed .before .before .before in (
       met .visit .ensures .0,
       turn-closed _ (turn .before .loop .inv .1) (search needs) (sym (closed .before .before .read-head .ensures) ∙ closed .head2 .given .1)
-          (rw (next .before .if1 .left) at (met .visit .ensures .1)) (search needs) (search needs) (next .aligned .ensures)
-          (sym (c .before .zero-bytes .ensures) ∙ not-false _ (c .if2 .left)),
+          (rw (next .before .before .if1 .left) at (met .visit .ensures .1)) (search needs) (search needs) (next .aligned .ensures)
+          (sym (c .before .zero-bytes .ensures) ∙ not-false _ (c .if3 .left)),
     )
 
 enum-known-head-3 : (t : ℕ) → lts.Need-enum-known-head-3 (R t) (At t) own.Post Inv μ
 enum-known-head-3 t c = search needs
 
-returns-4 : (t : ℕ) → lts.Need-returns-4 (R t) (At t) own.Post Inv μ
-returns-4 t c =
+returns-5 : (t : ℕ) → lts.Need-returns-5 (R t) (At t) own.Post Inv μ
+returns-5 t c =
     let opened = c .before .before in
     let turn = opened .before .before .before in (
       turn .before .loop .inv .0,
@@ -183,14 +193,14 @@ visit-requires-2 t c κs =
     let w = open-within _ _ _ (sym (opened .before .before .read-head .ensures) ∙ opened .head3 .given .1) in
     (omega arith, opened .before .before .before .before .loop .inv .0)
 
-returns-5 : (t : ℕ) → lts.Need-returns-5 (R t) (At t) own.Post Inv μ
-returns-5 t c =
+returns-6 : (t : ℕ) → lts.Need-returns-6 (R t) (At t) own.Post Inv μ
+returns-6 t c =
     let met = c .before in
     let opened = met .before .before .before .before in
     let turn = opened .before .before .before in (
       met .visit2 .ensures .0,
       turn-open-stop _ (turn .before .loop .inv .1) (search needs) (sym (opened .before .before .read-head .ensures) ∙ opened .head3 .given .1)
-          (met .before .before .if3 .left) (rw (c .if4 .taken) at (met .visit2 .ensures .1)) (search needs) (search needs) (ended _ _ _ (λ z. omega arith)),
+          (met .before .before .if4 .left) (rw (c .if5 .taken) at (met .visit2 .ensures .1)) (search needs) (search needs) (ended _ _ _ (λ z. omega arith)),
     )
 
 sub-walk-stream : (t : ℕ) → lts.Need-sub-walk-stream (R t) (At t) own.Post Inv μ
@@ -227,21 +237,33 @@ walk-stream-requires t c κs =
     let w = open-within _ _ _ (sym (opened .before .before .read-head .ensures) ∙ opened .head3 .given .1) in
     (omega arith, (omega arith, met .visit2 .ensures .0))
 
-returns-6 : (t : ℕ) → lts.Need-returns-6 (R t) (At t) own.Post Inv μ
-returns-6 t c =
+returns-7 : (t : ℕ) → lts.Need-returns-7 (R t) (At t) own.Post Inv μ
+returns-7 t c =
     let children = c .before in
     let met = children .before .before .before .before in
     let opened = met .before .before .before .before in
     let turn = opened .before .before .before in (
       children .walk-stream .ensures .0,
       turn-children _ (turn .before .loop .inv .1) (search needs) (sym (opened .before .before .read-head .ensures) ∙ opened .head3 .given .1)
-          (met .before .before .if3 .left) (rw (children .before .before .before .if4 .left) at (met .visit2 .ensures .1)) (search needs) (search needs)
-          (children .walk-stream .ensures .1) (search needs) (search needs) (ended _ _ _ (c .if5 .taken)),
+          (met .before .before .if4 .left) (rw (children .before .before .before .if5 .left) at (met .visit2 .ensures .1)) (search needs) (search needs)
+          (children .walk-stream .ensures .1) (search needs) (search needs) (ended _ _ _ (c .if6 .taken)),
+    )
+
+returns-8 : (t : ℕ) → lts.Need-returns-8 (R t) (At t) own.Post Inv μ
+returns-8 t c =
+    let children = c .before .before in
+    let met = children .before .before .before .before in
+    let opened = met .before .before .before .before in
+    let turn = opened .before .before .before in (
+      children .walk-stream .ensures .0,
+      turn-open-end _ (turn .before .loop .inv .1) (search needs) (sym (opened .before .before .read-head .ensures) ∙ opened .head3 .given .1)
+          (met .before .before .if4 .left) (rw (children .before .before .before .if5 .left) at (met .visit2 .ensures .1)) (search needs) (search needs)
+          (rw (c .before .if6 .left) at (children .walk-stream .ensures .1)) (search needs) (search needs) (search needs),
     )
 
 aligned-requires-2 : (t : ℕ) → lts.Need-aligned-requires-2 (R t) (At t) own.Post Inv μ
 aligned-requires-2 t c κs =
-    let opened = c .before .before .before .before .before .before .before .before .before in
+    let opened = c .before .before .before .before .before .before .before .before .before .before in
     let w = open-within _ _ _ (sym (opened .before .before .read-head .ensures) ∙ opened .head3 .given .1) in
     omega arith
 
@@ -251,24 +273,24 @@ sub-zero-bytes-2 t c = search needs
 zero-bytes-requires-2 : (t : ℕ) → lts.Need-zero-bytes-requires-2 (R t) (At t) own.Post Inv μ
 zero-bytes-requires-2 t c κs = search needs
 
-returns-7 : (t : ℕ) → lts.Need-returns-7 (R t) (At t) own.Post Inv μ
-returns-7 t c =
+returns-9 : (t : ℕ) → lts.Need-returns-9 (R t) (At t) own.Post Inv μ
+returns-9 t c =
     let next = c .before .before in
-    let children = next .before .before in
+    let children = next .before .before .before in
     let met = children .before .before .before .before in
     let opened = met .before .before .before .before in
     let turn = opened .before .before .before in (
       children .walk-stream .ensures .0,
       turn-open-207 _ (turn .before .loop .inv .1) (search needs) (sym (opened .before .before .read-head .ensures) ∙ opened .head3 .given .1)
-          (met .before .before .if3 .left) (rw (children .before .before .before .if4 .left) at (met .visit2 .ensures .1)) (search needs) (search needs)
-          (rw (next .before .if5 .left) at (children .walk-stream .ensures .1)) (search needs) (search needs) (next .aligned2 .ensures)
-          (sym (c .before .zero-bytes2 .ensures) ∙ not-true _ (c .if6 .taken)) (carried-fault _ _ (omega arith)),
+          (met .before .before .if4 .left) (rw (children .before .before .before .if5 .left) at (met .visit2 .ensures .1)) (search needs) (search needs)
+          (rw (next .before .before .if6 .left) at (children .walk-stream .ensures .1)) (search needs) (search needs) (next .aligned2 .ensures)
+          (sym (c .before .zero-bytes2 .ensures) ∙ not-true _ (c .if8 .taken)) (carried-fault _ _ (omega arith)),
     )
 
 loop-less-2 : (t : ℕ) → lts.Need-loop-less-2 (R t) (At t) own.Post Inv μ
 loop-less-2 t c =
     let next = c .before .before in
-    let opened = next .before .before .before .before .before .before .before .before .before .before in
+    let opened = next .before .before .before .before .before .before .before .before .before .before .before in
     let w = open-within _ _ _ (sym (opened .before .before .read-head .ensures) ∙ opened .head3 .given .1) in
     let up = next .aligned2 .ensures in
     omega arith
@@ -276,19 +298,19 @@ loop-less-2 t c =
 loop-again-2 : (t : ℕ) → lts.Need-loop-again-2 (R t) (At t) own.Post Inv μ
 loop-again-2 t c =
     let next = c .before .before in
-    let children = next .before .before in
+    let children = next .before .before .before in
     let met = children .before .before .before .before in
     let opened = met .before .before .before .before in
     let turn = opened .before .before .before in (
       children .walk-stream .ensures .0,
       turn-open-next _ (turn .before .loop .inv .1) (search needs) (sym (opened .before .before .read-head .ensures) ∙ opened .head3 .given .1)
-          (met .before .before .if3 .left) (rw (children .before .before .before .if4 .left) at (met .visit2 .ensures .1)) (search needs) (search needs)
-          (rw (next .before .if5 .left) at (children .walk-stream .ensures .1)) (search needs) (search needs) (next .aligned2 .ensures)
-          (sym (c .before .zero-bytes2 .ensures) ∙ not-false _ (c .if6 .left)),
+          (met .before .before .if4 .left) (rw (children .before .before .before .if5 .left) at (met .visit2 .ensures .1)) (search needs) (search needs)
+          (rw (next .before .before .if6 .left) at (children .walk-stream .ensures .1)) (search needs) (search needs) (next .aligned2 .ensures)
+          (sym (c .before .zero-bytes2 .ensures) ∙ not-false _ (c .if8 .left)),
     )
 
-returns-8 : (t : ℕ) → lts.Need-returns-8 (R t) (At t) own.Post Inv μ
-returns-8 t c = (c .before .loop .inv .0, going-end _ (c .before .loop .inv .1) (search needs))
+returns-10 : (t : ℕ) → lts.Need-returns-10 (R t) (At t) own.Post Inv μ
+returns-10 t c = (c .before .loop .inv .0, going-end _ (c .before .loop .inv .1) (search needs))
 
 pub +walk-stream-spec : {M : Type 1} → statement M
 +walk-stream-spec = close levels λ t. lts.spec (R t)
@@ -305,29 +327,31 @@ pub +walk-stream-spec : {M : Type 1} → statement M
     (add-visit-2 t)
     (visit-requires t)
     (returns-2 t)
+    (returns-3 t)
     (aligned-requires t)
     (sub-zero-bytes t)
     (zero-bytes-requires t)
-    (returns-3 t)
+    (returns-4 t)
     (loop-less t)
     (loop-again t)
     (enum-known-head-3 t)
-    (returns-4 t)
+    (returns-5 t)
     (add-visit-3 t)
     (add-visit-4 t)
     (visit-requires-2 t)
-    (returns-5 t)
+    (returns-6 t)
     (sub-walk-stream t)
     (part-walk-stream-start t)
     (part-walk-stream-end t)
     (add-walk-stream t)
     (sub-walk-stream-2 t)
     (walk-stream-requires t)
-    (returns-6 t)
+    (returns-7 t)
+    (returns-8 t)
     (aligned-requires-2 t)
     (sub-zero-bytes-2 t)
     (zero-bytes-requires-2 t)
-    (returns-7 t)
+    (returns-9 t)
     (loop-less-2 t)
     (loop-again-2 t)
-    (returns-8 t)
+    (returns-10 t)

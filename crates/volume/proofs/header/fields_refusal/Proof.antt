@@ -2,16 +2,17 @@
 use Prim.Native.Nat.{ℕ, _-_, _*_}
 use mathlib.Core.Path.{_≡_, sym, ap, _∙_}
 use mathlib.Core.Bool.{false}
-use mathlib.Core.List.{List}
+use mathlib.Core.List.{List, [], _∷_}
 use native.Mathlib.Omega.{arith}
 use borrow.Author.Tests.{eq-eqb, ne-eqb, lt-ltb, le-ltb}
 use borrow.Author.Needs.{needs}
 use denote.Ref.{now}
-use lib.ListN.{take}
+use lib.ListN.{take, drop}
 use lib.Seq.{length-take-le}
-use Rattle.common.specs.Refusals.{firstRefusal}
+use Rattle.common.specs.Refusals.{firstRefusal, row}
+use Rattle.common.proofs.Refusals.{row-applies, row-passes, no-row}
 use Rattle.numbers.specs.LittleEndian.{le}
-use Rattle.volume.specs.Attributes.{attributesFault}
+use Rattle.volume.specs.Attributes.{attributesFault, baseFault}
 use Rattle.volume.specs.BlockMap.{hasZero, sizeFault}
 use Rattle.volume.specs.ExtendedHeader.{extOffset, extFault}
 use Rattle.volume.specs.State.{stateWith, mapOf}
@@ -122,42 +123,55 @@ returns-5 c guid protected =
 base-fault-requires : tie.Need-base-fault-requires
 base-fault-requires c κs = search needs
 
+-- behind 109 the last two rows decide
+late : (c : tie.Else5) (guid : List ℕ) (protected : ℕ)
+    → let before = one (two (three (c .before))) in
+    let a = start before .args in
+    let s = bytes before in
+    firstRefusal (drop 5 (openRefusals s (state before guid protected)))
+    ≡ firstRefusal (row (baseFault (a .attributes) (a .base)) 110 ∷ row (extFault s (headerLengthAt s) (a .len) (extOffset (a .edition) s)) 112 ∷ [])
+unfolding firstRefusal openRefusals mapOf stateWith
+late c guid protected =
+    let behind = c .before in
+    simp (mapped (two (three behind)) guid protected, sized (three behind), allowed behind, le-ltb _ _ (c .if5 .left))
+
+unmapped : (c : tie.Else6) → (let a = start (one (two (three (c .before .before .before)))) .args in baseFault (a .attributes) (a .base)) ≡ false
+unmapped c = sym (c .before .base-fault .ensures) ∙ c .if6 .left
+
+-- what the test of the extended header said
+told : (c : tie.After-ext-fault)
+    → let before = one (two (three (c .before .before .before .before))) in
+    let a = start before .args in
+    c .ext-fault .result ≡ extFault (bytes before) (headerLengthAt (bytes before)) (a .len) (extOffset (a .edition) (bytes before))
+told c =
+    let before = one (two (three (c .before .before .before .before))) in
+    let a = start before .args in
+    c .ext-fault .ensures
+    ∙ ap (λ (h : ℕ). extFault (bytes before) h (a .len) (extOffset (a .edition) (bytes before))) (omega (arith, before .before .before .before .u16-at .ensures))
+
+returns-6 : tie.Need-returns-6
+unfolding refusalOf
+returns-6 c guid protected =
+    let long = c .before .before in
+    sym (late long guid protected ∙ row-applies _ _ _ (sym (c .before .base-fault .ensures) ∙ c .if6 .taken))
+
 add-ext-fault : tie.Need-add-ext-fault
 add-ext-fault c = search needs
 
 ext-fault-requires : tie.Need-ext-fault-requires
 ext-fault-requires c κs = search needs
 
-last-refusal-requires : tie.Need-last-refusal-requires
-last-refusal-requires c κs = search needs
+returns-7 : tie.Need-returns-7
+unfolding refusalOf
+returns-7 c guid protected =
+    let free = c .before .before in
+    sym (late (free .before .before) guid protected ∙ row-passes _ _ _ _ (unmapped free) (row-applies _ _ _ (sym (told (c .before)) ∙ c .if7 .taken)))
 
--- what the test of the extended header said
-told : (c : tie.After-ext-fault)
-    → let before = one (two (three (c .before .before .before))) in
-    let a = start before .args in
-    c .ext-fault .result ≡ extFault (bytes before) (headerLengthAt (bytes before)) (a .len) (extOffset (a .edition) (bytes before))
-told c =
-    let before = one (two (three (c .before .before .before))) in
-    let a = start before .args in
-    c .ext-fault .ensures
-    ∙ ap (λ (h : ℕ). extFault (bytes before) h (a .len) (extOffset (a .edition) (bytes before))) (omega (arith, before .before .before .before .u16-at .ensures))
-
--- behind 109 the last two rows decide
-returns-6 : tie.Need-returns-6
-unfolding firstRefusal openRefusals mapOf stateWith
-returns-6 c guid protected =
-    let extended = c .before in
-    let long = extended .before .before in
-    let behind = long .before in
-    c .last-refusal .ensures
-    ∙ simp (
-      mapped (two (three behind)) guid protected,
-      sized (three behind),
-      allowed behind,
-      le-ltb _ _ (long .if5 .left),
-      extended .before .base-fault .ensures,
-      told extended,
-    )
+returns-8 : tie.Need-returns-8
+unfolding refusalOf
+returns-8 c guid protected =
+    let free = c .before .before in
+    sym (late (free .before .before) guid protected ∙ row-passes _ _ _ _ (unmapped free) (row-passes _ _ _ _ (sym (told (c .before)) ∙ c .if7 .left) no-row))
 
 pub fields-refusal-spec : {M : Type 1} → statement M
 fields-refusal-spec =
@@ -179,7 +193,8 @@ fields-refusal-spec =
     returns-4
     returns-5
     base-fault-requires
+    returns-6
     add-ext-fault
     ext-fault-requires
-    last-refusal-requires
-    returns-6)
+    returns-7
+    returns-8)

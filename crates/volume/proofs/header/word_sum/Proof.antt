@@ -1,11 +1,13 @@
 -- `volume::header::word_sum` meets its contract: what the accumulator holds after the last whole word, and the odd byte that may be left.
-use Prim.Native.Nat.{_-_, _%_, _≤_}
-use mathlib.Core.Path.{_≡_, refl, _∙_}
+use Prim.Native.Nat.{ℕ, _-_, _%_, _≤_}
+use mathlib.Core.Path.{_≡_, refl, ap, _∙_}
+use mathlib.Core.List.{List}
 use native.Mathlib.Omega.{arith}
 use borrow.Author.Needs.{needs}
 use denote.Ref.{now}
 use lib.ListN.{length, take}
-use Rattle.numbers.proofs.LittleEndian.{le-two}
+use lib.Seq.{take-all}
+use Rattle.numbers.proofs.LittleEndian.{le-two, le-last}
 use Rattle.volume.specs.Header.{wordModulus, wordSum}
 use Rattle.volume.proofs.header.Sums.{sum-so-far, sum-whole}
 use Rattle.volume.proofs.header.word_sum.Statement.{statement}
@@ -37,8 +39,8 @@ shared-slice-read-high c = search needs
 u16-of-requires : tie.Need-u16-of-requires Inv-loop μ-loop
 u16-of-requires c κs = search needs
 
-wrapping-add-u16-requires : tie.Need-wrapping-add-u16-requires Inv-loop μ-loop
-wrapping-add-u16-requires c κs = search needs
+add-word-requires : tie.Need-add-word-requires Inv-loop μ-loop
+add-word-requires c κs = search needs
 
 add-i : tie.Need-add-i Inv-loop μ-loop
 add-i c = search needs
@@ -52,19 +54,31 @@ loop-again c =
     let l = looped .loop in
     let s = now (looped .before .before .args .s) in
     let word = c .before .u16-of .ensures ∙ le-two s (l .i) _ (omega arith) in
-    (search needs, search needs, omega (arith, sum-so-far s (l .i) (l .inv .1) (omega arith)))
+    (search needs, search needs, omega (arith, c .add-word .ensures (wordSum (take (l .i) s)) (l .inv .2), sum-so-far s (l .i) (l .inv .1) (omega arith)))
 
-u16-at-requires : tie.Need-u16-at-requires Inv-loop μ-loop
-u16-at-requires c κs = search needs
+shared-slice-read-low-2 : tie.Need-shared-slice-read-low-2 Inv-loop μ-loop
+shared-slice-read-low-2 c = search needs
 
-wrapping-add-u16-requires-2 : tie.Need-wrapping-add-u16-requires-2 Inv-loop μ-loop
-wrapping-add-u16-requires-2 c κs = search needs
+u16-of-requires-2 : tie.Need-u16-of-requires-2 Inv-loop μ-loop
+u16-of-requires-2 c κs = search needs
+
+add-word-requires-2 : tie.Need-add-word-requires-2 Inv-loop μ-loop
+add-word-requires-2 c κs = search needs
 
 returns : tie.Need-returns Inv-loop μ-loop
 returns c =
-    let looped = c .before .before .before in
+    let looped = c .before .before .before .before .before in
     let l = looped .loop in
-    omega (arith, sum-whole (now (looped .before .before .args .s)) (l .i) (l .inv .1) (l .inv .0) (omega arith))
+    let s = now (looped .before .before .args .s) in
+    let word = c .before .u16-of2 .ensures ∙ le-last s (l .i) (omega arith) in
+    omega (arith, c .add-word2 .ensures (wordSum (take (l .i) s)) (l .inv .2), sum-whole s (l .i) (l .inv .1) (l .inv .0) (omega arith))
+
+returns-2 : tie.Need-returns-2 Inv-loop μ-loop
+returns-2 c =
+    let looped = c .before .before in
+    let l = looped .loop in
+    let s = now (looped .before .before .args .s) in
+    l .inv .2 ∙ ap (λ (b : List ℕ). wordSum b % wordModulus) (take-all (l .i) s (omega arith))
 
 pub word-sum-spec : {M : Type 1} → statement M
 word-sum-spec =
@@ -78,10 +92,12 @@ word-sum-spec =
     add-high
     shared-slice-read-high
     u16-of-requires
-    wrapping-add-u16-requires
+    add-word-requires
     add-i
     loop-less
     loop-again
-    u16-at-requires
-    wrapping-add-u16-requires-2
-    returns)
+    shared-slice-read-low-2
+    u16-of-requires-2
+    add-word-requires-2
+    returns
+    returns-2)
