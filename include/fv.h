@@ -1,17 +1,18 @@
 /*
- * Firmware volumes, from C: opening, read, write, erase, the entries of an extended header and the
- * section calls. Each is proved to answer, on every input, what its definition in crates/fv/specs
- * says: 5 for too few bytes, and otherwise what the library's call behind it answers (docs/API.md).
+ * Firmware volumes, from C: opening, read, write, erase, erase in two operations, the entries of an
+ * extended header and the section calls. Each is proved to answer, on every input, what its
+ * definition in crates/fv/specs says: 5 for too few bytes, and otherwise what the library's call
+ * behind it answers (docs/API.md).
  *
  * `rt staticlib fv` proves and builds target/staticlib/libfv.a: x86-64 code with SSE2, System V
  * calling convention and its red zone, which wants memcpy, memmove and memset of whom it is linked
  * with.
  *
  * Every call returns a number: 0 for success; 4, short, where a read or a write was cut at the
- * block's end (what was moved is moved, and the count is answered); or a refusal's number, never
- * 0 or 4. A refusal changes no byte of any range. README.md says what each number means. Two of
- * them come before all others here:
- *     5      fewer than FV_STATE_BYTES of state, or fewer than FV_ANSWER_BYTES of answer, were lent
+ * block's end (what was moved is moved, and the count is answered), or where fv_carry_erase has
+ * bytes left to store; or a refusal's number, never 0 or 4. A refusal changes no byte of any range.
+ * README.md says what each number means. Two of them come before all others here:
+ *     5      fewer than FV_STATE_BYTES of state, FV_ANSWER_BYTES of answer or FV_JOB_BYTES of job
  *     111    the state's bytes are no lawful state
  *
  * What the caller owes, since nothing can test it: every range, a pointer and a length, is memory
@@ -19,9 +20,10 @@
  * not null even where the length is 0, and its length is below 2^63; a range that is not const
  * overlaps no other range of the call. Bytes that a call only stores into may hold anything.
  *
- * No range needs an alignment. No call allocates, keeps anything, or reads a global; each takes less
- * than 1 KiB of stack (tests/host measures it; no proof says it). Ranges that are longer than what
- * is stored keep the bytes behind it.
+ * No range needs an alignment. No call allocates, keeps anything, or reads a global; each takes
+ * less than 1 KiB of stack, but fv_erase and fv_carry_erase, which take less than 10 KiB
+ * (tests/host measures it; no proof says it). Ranges that are longer than what is stored keep the
+ * bytes behind it.
  */
 #ifndef FV_H
 #define FV_H
@@ -46,6 +48,9 @@ extern "C" {
 
 /* An answer: two 64-bit numbers, little endian. */
 #define FV_ANSWER_BYTES 16
+
+/* A job: a 64-bit number, little endian. It may be kept over a reboot. */
+#define FV_JOB_BYTES 8
 
 /* Section modes: 0, and any other. FV_PI is for files whose sections may have a 32-bit size. */
 #define FV_FRAMEWORK 0
@@ -88,6 +93,32 @@ uint32_t fv_write(const uint8_t *state, size_t state_len,
  */
 uint32_t fv_erase(const uint8_t *state, size_t state_len,
                   uint8_t *volume, size_t volume_len, const uint8_t *list, size_t list_len);
+
+/*
+ * An erase in two operations, for a supply that may fail. fv_accept_erase looks at the whole list,
+ * as fv_erase does, stores nothing in the volume, and stores a job in the first 8 bytes of `job`.
+ * Refused with 5 (state or job), 111, 5 (volume), 15 (writes are disabled), 2 (a bad list), 15 (a
+ * block of it is protected).
+ */
+uint32_t fv_accept_erase(const uint8_t *state, size_t state_len,
+                         const uint8_t *volume, size_t volume_len,
+                         const uint8_t *list, size_t list_len, uint8_t *job, size_t job_len);
+
+/*
+ * Carries the job on by so many byte stores, or by what is left if fewer: blocks as the list first
+ * names them, bytes upward, each once. Returns 0 where nothing is left then, and 4 otherwise, with
+ * the job as it now stands in the first 8 bytes of `job`; what a job holds is the library's matter.
+ * On 0 these bytes stay; forget them, since a job that is carried on again erases again, also what
+ * was written since. For a power cut keep three things where it leaves them: the state, the list
+ * and the job last stored (README, Power cuts). After it carry on with them; an earlier job is as
+ * good, and 0 always is, but store it as the job first. Refused with 5 (state or job), 111, 5
+ * (volume), 15 (writes are disabled), 2 (a bad list, or a job that this map and list never give),
+ * 15 (a block of the list is protected).
+ */
+uint32_t fv_carry_erase(const uint8_t *state, size_t state_len,
+                        uint8_t *volume, size_t volume_len,
+                        const uint8_t *list, size_t list_len,
+                        uint8_t *job, size_t job_len, uint64_t stores);
 
 /*
  * The section of a type that has `instance` sections of that type before it: depth first, a holder

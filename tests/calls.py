@@ -14,10 +14,11 @@ Request = namedtuple("Request", "name call arguments script line number kept")
 
 # The calls by their numbers, with the arguments of each in their order: n a number, else a range by its place, a small letter
 # where it is lent as const. The places are state, volume (also a stream, a buffer of sections), data (also a buffer that is
-# read into, an erase list, a section's body) and answer.
+# read into, an erase list, a section's body) and answer (also a job, which is read too).
 CALLS = (("open", "Svn", loader.fv_open), ("read", "svnnDA", loader.fv_read), ("write", "sVnndA", loader.fv_write),
          ("erase", "sVd", loader.fv_erase), ("search", "nvnnA", loader.fv_search), ("search first", "nvnA", loader.fv_search_first),
-         ("append", "nVnndA", loader.fv_append), ("ext entry", "vnA", loader.fv_ext_entry))
+         ("append", "nVnndA", loader.fv_append), ("ext entry", "vnA", loader.fv_ext_entry),
+         ("accept erase", "svdA", loader.fv_accept_erase), ("carry erase", "sVdAn", loader.fv_carry_erase))
 NUMBERS = {name: i for i, (name, _, _) in enumerate(CALLS)}
 PLACES = "svda"
 KEPT = 2**32 - 1        # in the place of a range's number of pieces

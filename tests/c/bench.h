@@ -8,7 +8,7 @@
 /* Who does the work of a row: the library, plain C, or memcpy or memset alone. */
 enum who { LIBRARY, PLAIN, MEMORY };
 
-enum call { OPEN, READ, WRITE, ERASE, SEARCH, SEARCH_FIRST, APPEND, EXT_ENTRY };
+enum call { OPEN, READ, WRITE, ERASE, ACCEPT_ERASE, CARRY_ERASE, SEARCH, SEARCH_FIRST, APPEND, EXT_ENTRY };
 
 /* What a row lends to its call. */
 struct work {
@@ -19,6 +19,7 @@ struct work {
     uint8_t *data;              /* a read's buffer, a write's data, an erase list, a section's body */
     size_t data_len;
     uint64_t block, offset;
+    uint64_t job, stores;       /* the job that is carried on, and by how many stores */
     uint64_t used;              /* bytes of the buffer before an append */
     uint8_t type;
     uint64_t number;            /* an instance, or the number of an extended header's entry */

@@ -11,14 +11,17 @@ static const struct {
     __typeof__(&fv_read) read;
     __typeof__(&fv_write) write;
     __typeof__(&fv_erase) erase;
+    __typeof__(&fv_accept_erase) accept_erase;
+    __typeof__(&fv_carry_erase) carry_erase;
     __typeof__(&fv_search) search;
     __typeof__(&fv_search_first) search_first;
     __typeof__(&fv_append) append;
     __typeof__(&fv_ext_entry) ext_entry;
 } entry_points[] = {
-    [LIBRARY] = {fv_open, fv_read, fv_write, fv_erase, fv_search, fv_search_first, fv_append, fv_ext_entry},
-    [PLAIN] = {plain_open, plain_read, plain_write, plain_erase, plain_search, plain_search_first, plain_append,
-               plain_ext_entry},
+    [LIBRARY] = {fv_open, fv_read, fv_write, fv_erase, fv_accept_erase, fv_carry_erase, fv_search, fv_search_first,
+                 fv_append, fv_ext_entry},
+    [PLAIN] = {plain_open, plain_read, plain_write, plain_erase, plain_accept_erase, plain_carry_erase, plain_search,
+               plain_search_first, plain_append, plain_ext_entry},
 };
 
 /* Not known to the compiler, which would replace calls of few bytes. */
@@ -53,6 +56,13 @@ static void move_bytes(const struct work *w)
     }
 }
 
+/* The bytes of the job, which are the same at each call. */
+static uint8_t *same_job(struct work *w)
+{
+    memcpy(w->answer, &w->job, sizeof w->job);
+    return w->answer;
+}
+
 /* n = the call, over and over. */
 #define TIMES(call) do n = (call); while (--times > 0)
 
@@ -79,6 +89,14 @@ uint32_t repeat(enum who who, struct work *w, long times)
         break;
     case ERASE:
         TIMES(entry_points[who].erase(w->state, sizeof w->state, w->bytes, w->bytes_len, w->data, w->data_len));
+        break;
+    case ACCEPT_ERASE:
+        TIMES(entry_points[who].accept_erase(w->state, sizeof w->state, w->bytes, w->bytes_len, w->data, w->data_len,
+                                             w->answer, sizeof w->answer));
+        break;
+    case CARRY_ERASE:
+        TIMES(entry_points[who].carry_erase(w->state, sizeof w->state, w->bytes, w->bytes_len, w->data, w->data_len,
+                                            same_job(w), sizeof w->answer, w->stores));
         break;
     case SEARCH:
         TIMES(entry_points[who].search(FV_FRAMEWORK, w->bytes, w->bytes_len, w->type, w->number,

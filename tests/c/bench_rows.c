@@ -149,6 +149,63 @@ static void prepare_cached_erase(struct work *w, int entries, int pairs)
     prepare_list(w, pairs, 1, 1, CACHED_BLOCKS);
 }
 
+/* The pairs of a list, in an order that is always the same and has no pattern. */
+static void shuffle(uint8_t *list, uint32_t pairs)
+{
+    uint8_t pair[16];
+    uint64_t random = 1;
+    for (uint32_t left = pairs; left > 1; left--) {
+        random = random * 6364136223846793005u + 1442695040888963407u;
+        uint8_t *last = list + 16 * (left - 1), *other = list + 16 * ((random >> 33) % left);
+        memcpy(pair, last, 16);
+        memcpy(last, other, 16);
+        memcpy(other, pair, 16);
+    }
+}
+
+static void prepare_shuffled_erase(struct work *w, int pairs, int count)
+{
+    prepare_erase(w, pairs, count);
+    shuffle(data, (uint32_t)pairs);
+}
+
+/* Pairs of 20 blocks, each over the last 7 of the one before. */
+static void prepare_overlapping_erase(struct work *w, int pairs, int unused)
+{
+    (void)unused;
+    prepare_erase(w, pairs, 20);
+    prepare_list(w, pairs, 13, 20, ALL_BLOCKS);
+}
+
+static void prepare_accept(struct work *w, int pairs, int count)
+{
+    prepare_erase(w, pairs, count);
+    w->call = ACCEPT_ERASE;
+}
+
+/* From the middle of a job of pairs of one block. */
+static void prepare_carry(struct work *w, int pairs, int stores)
+{
+    prepare_erase(w, pairs, 1);
+    w->call = CARRY_ERASE;
+    w->job = (uint64_t)pairs * ERASED_BLOCK / 2;
+    w->stores = (uint64_t)stores;
+    w->expected = 4;
+}
+
+/* So many pairs [i, 65536 - i), carried on to the end. */
+static void prepare_nested_carry(struct work *w, int pairs, int inner_first)
+{
+    prepare_erase(w, pairs, 1);
+    for (int i = 0; i < pairs; i++) {
+        int outside = inner_first ? pairs - 1 - i : i;
+        put(data + 16 * i, (uint64_t)outside, 8);
+        put(data + 16 * i + 8, ALL_BLOCKS - 2 * (uint64_t)outside, 8);
+    }
+    w->call = CARRY_ERASE;
+    w->stores = UINT64_MAX;
+}
+
 /* A lawful list on a volume whose writes are disabled. */
 static void prepare_refused_erase(struct work *w, int pairs, int unused)
 {
@@ -278,11 +335,19 @@ const struct row rows[] = {
     {"sticky write (OR) 4 KiB, 1 map entry", "", prepare_sticky_or, 1, 4 * KIB},
     {"sticky write (OR) 64 KiB, 1 map entry", "", prepare_sticky_or, 1, 64 * KIB},
     {"erase 16 MiB in 65,536 blocks, 1 pair", "memset", prepare_erase, 1, 65536},
+    {"erase 1 pair of 1 block of 256 bytes", "memset", prepare_erase, 1, 1},
     {"erase 10,000 pairs of 1 block of 256 bytes", "memset", prepare_erase, 10000, 1},
+    {"erase 10,000 shuffled pairs of 1 block of 256 bytes", "memset", prepare_shuffled_erase, 10000, 1},
+    {"erase 5,000 pairs of 20 blocks, each over 7 of the one before", "memset", prepare_overlapping_erase, 5000, 0},
     {"erase 1,000 pairs of 1 block of 64 bytes in cache, 1 map entry", "memset", prepare_cached_erase, 1, 1000},
     {"erase 1,000 pairs of 1 block of 64 bytes in cache, 32 map entries", "memset", prepare_cached_erase, 32, 1000},
     {"erase, writes disabled: 500,000 pairs, 15", "", prepare_refused_erase, 500000, 0},
     {"erase, no terminator: 500,000 pairs, 2", "", prepare_endless_list, 500000, 0},
+    {"accept_erase 10,000 pairs", "", prepare_accept, 10000, 1},
+    {"carry_erase by 1 in the middle of 10,000 pairs of 256 bytes", "", prepare_carry, 10000, 1},
+    {"carry_erase by 4,096 in the middle of 10,000 pairs of 256 bytes", "", prepare_carry, 10000, 4096},
+    {"carry_erase to the end, 10,000 pairs [i, 65536 - i)", "", prepare_nested_carry, 10000, 0},
+    {"carry_erase to the end, 10,000 pairs [i, 65536 - i), the inner first", "", prepare_nested_carry, 10000, 1},
     {"search 16 MiB of 4-byte sections, first", "", prepare_small, AT_FIRST, 0},
     {"search 16 MiB of 4-byte sections, last", "", prepare_small, AT_LAST, 0},
     {"search 16 MiB of 4-byte sections, not there", "", prepare_small, NOT_THERE, 0},

@@ -21,6 +21,7 @@
 #include "stack.h"
 
 _Static_assert(FV_STATE_BYTES == 304 && FV_ANSWER_BYTES == 16, "document 02's numbers");
+_Static_assert(FV_JOB_BYTES == 8, "a job is one 64-bit number");
 _Static_assert(FV_FRAMEWORK == 0 && FV_PI != 0, "document 02's modes");
 
 /* ---- The script ---- */
@@ -100,10 +101,10 @@ static void take_range(int place, int constant, int at_start)
     lend_alone(place, length, constant, at_start);
 }
 
-enum { OPEN, READ, WRITE, ERASE, SEARCH, SEARCH_FIRST, APPEND, EXT_ENTRY, CALLS };
+enum { OPEN, READ, WRITE, ERASE, SEARCH, SEARCH_FIRST, APPEND, EXT_ENTRY, ACCEPT_ERASE, CARRY_ERASE, CALLS };
 
 /* The arguments of each call in their order: n a number, else a range by its place, a small letter where it is lent as const. */
-static const char *const SHAPES[CALLS] = {"Svn", "svnnDA", "sVnndA", "sVd", "nvnnA", "nvnA", "nVnndA", "vnA"};
+static const char *const SHAPES[CALLS] = {"Svn", "svnnDA", "sVnndA", "sVd", "nvnnA", "nvnA", "nVnndA", "vnA", "svdA", "sVdAn"};
 
 static uint64_t numbers[4];
 static unsigned call;
@@ -141,7 +142,9 @@ static uint32_t number_returned(void)
     case SEARCH: return noted_fv_search((uint32_t)a, LENT(VOLUME), (uint8_t)b, c, LENT(ANSWER));
     case SEARCH_FIRST: return noted_fv_search_first((uint32_t)a, LENT(VOLUME), (uint8_t)b, LENT(ANSWER));
     case APPEND: return noted_fv_append((uint32_t)a, LENT(VOLUME), b, (uint8_t)c, LENT(DATA), LENT(ANSWER));
-    default: return noted_fv_ext_entry(LENT(VOLUME), a, LENT(ANSWER));
+    case EXT_ENTRY: return noted_fv_ext_entry(LENT(VOLUME), a, LENT(ANSWER));
+    case ACCEPT_ERASE: return noted_fv_accept_erase(LENT(STATE), LENT(VOLUME), LENT(DATA), LENT(ANSWER));
+    default: return noted_fv_carry_erase(LENT(STATE), LENT(VOLUME), LENT(DATA), LENT(ANSWER), a);
     }
 }
 

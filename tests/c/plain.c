@@ -1,11 +1,12 @@
 /* The calls of fv.h in plain C11: plain.h says what for. */
 #include "plain.h"
+#include "plain_order.h"
 #include "plain_state.h"
 #include "plain_walk.h"
 
 enum { SUCCESS = 0, INVALID = 2, SHORT = 4, TOO_SMALL = 5, NOT_FOUND = 14, DENIED = 15, BAD_STATE = 111 };
 
-enum { ANSWER_BYTES = 16 };
+enum { ANSWER_BYTES = 16, JOB_BYTES = 8 };
 
 static uint32_t answered(uint8_t *answer, uint64_t first, uint64_t second, uint32_t number)
 {
@@ -250,6 +251,55 @@ uint32_t plain_erase(const uint8_t *state, size_t state_len,
         memset(volume + start, s.n.attributes & ERASE_ONE ? 0xFF : 0, end - start);
     }
     return SUCCESS;
+}
+
+/* ---- Erase in two operations: the job is how many bytes of the order were stored ---- */
+
+enum { NOT_FINISHED = SHORT };
+
+uint32_t plain_accept_erase(const uint8_t *state, size_t state_len,
+                            const uint8_t *volume, size_t volume_len, const uint8_t *list, size_t list_len,
+                            uint8_t *job, size_t job_len)
+{
+    size_t pairs;
+    (void)volume;
+    if (state_len < STATE_BYTES || job_len < JOB_BYTES)
+        return TOO_SMALL;
+    struct state s = unpack(state);
+    uint32_t refusal = service_refusal(&s, volume_len, WRITE_STATUS);
+    if (!refusal)
+        refusal = list_refusal(&s, list, list_len / 8, &pairs);
+    if (refusal)
+        return refusal;
+    memset(job, 0, JOB_BYTES);
+    return SUCCESS;
+}
+
+uint32_t plain_carry_erase(const uint8_t *state, size_t state_len,
+                           uint8_t *volume, size_t volume_len, const uint8_t *list, size_t list_len,
+                           uint8_t *job, size_t job_len, uint64_t stores)
+{
+    size_t pairs;
+    if (state_len < STATE_BYTES || job_len < JOB_BYTES)
+        return TOO_SMALL;
+    struct state s = unpack(state);
+    uint32_t refusal = service_refusal(&s, volume_len, WRITE_STATUS);
+    if (refusal)
+        return refusal;
+    refusal = list_refusal(&s, list, list_len / 8, &pairs);
+    if (refusal == INVALID)
+        return INVALID;
+    uint64_t from = load64(job), total = order_length(&s, list, pairs);
+    if (from != 0 && from >= total)
+        return INVALID;
+    if (refusal)
+        return refusal;
+    uint64_t to = stores < total - from ? from + stores : total;
+    erase_part(&s, list, pairs, volume, from, to);
+    if (to == total)
+        return SUCCESS;
+    memcpy(job, &to, JOB_BYTES);
+    return NOT_FINISHED;
 }
 
 /* ---- Sections ---- */

@@ -15,6 +15,8 @@
 #define plain_read fv_read
 #define plain_write fv_write
 #define plain_erase fv_erase
+#define plain_accept_erase fv_accept_erase
+#define plain_carry_erase fv_carry_erase
 #define plain_search fv_search
 #define plain_search_first fv_search_first
 #define plain_append fv_append
@@ -34,6 +36,14 @@ uint32_t plain_write(const uint8_t *state, size_t state_len,
 
 uint32_t plain_erase(const uint8_t *state, size_t state_len,
                      uint8_t *volume, size_t volume_len, const uint8_t *list, size_t list_len);
+
+uint32_t plain_accept_erase(const uint8_t *state, size_t state_len,
+                            const uint8_t *volume, size_t volume_len, const uint8_t *list, size_t list_len,
+                            uint8_t *job, size_t job_len);
+
+uint32_t plain_carry_erase(const uint8_t *state, size_t state_len,
+                           uint8_t *volume, size_t volume_len, const uint8_t *list, size_t list_len,
+                           uint8_t *job, size_t job_len, uint64_t stores);
 
 uint32_t plain_search(uint32_t mode, const uint8_t *stream, size_t stream_len,
                       uint8_t section_type, uint64_t instance, uint8_t *answer, size_t answer_len);

@@ -28,6 +28,8 @@ NOTED(fv_search);
 NOTED(fv_search_first);
 NOTED(fv_append);
 NOTED(fv_ext_entry);
+NOTED(fv_accept_erase);
+NOTED(fv_carry_erase);
 
 static uint8_t *own_stack;
 static ucontext_t on_own, on_usual;

@@ -20,8 +20,11 @@ LISTS = {"no word": (), "the terminator": (END,), "a pair": (0, 1), "a first blo
 
 
 def erase(name, data):
+    """An erase, at once and in two operations."""
     for state in (STATE, PROTECTED):
         yield request("list, " + name, "erase", state, VOLUME, data)
+        yield request("list, " + name, "accept erase", state, VOLUME, data, filled(8))
+        yield request("list, " + name, "carry erase", state, VOLUME, data, bytes(8), 2**64 - 1)
 
 
 def part_word_cases():

@@ -1,5 +1,5 @@
 """Calls that may take the most stack, as requests of the C program c/calls.c: all that opening looks at, searches down to the eighth
-level, erases through every map entry. Moves of all lengths are in moves.py.
+level, erases through every map entry, at once and in two operations. Moves of all lengths are in moves.py.
 """
 
 from itertools import product
@@ -46,7 +46,11 @@ def erase_cases():
         good = words(*(word for i in range(pairs - 1) for word in (i * 7 % (blocks - 1), 1)))
         for last, name in (((blocks - 2, 1), "good"), ((0, blocks), "protected"), ((1, blocks), "bad")):
             name = "%d pairs, the last %s, %d map entries" % (pairs, name, len(map_words) // 2)
-            yield request(name, "erase", packed(map_words, mark=blocks - 1), filled(total(map_words)), good + words(*last, END))
+            lent = packed(map_words, mark=blocks - 1), filled(total(map_words)), good + words(*last, END)
+            yield request(name, "erase", *lent)
+            yield request(name, "accept erase", *lent, ANSWER)
+            yield request(name, "carry erase", *lent, bytes(8), 2**64 - 1)
+            yield request(name, "carry erase", *lent, words(5), 9)
 
 
 GROUPS = (opening_cases, search_cases, erase_cases)

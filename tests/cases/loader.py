@@ -90,11 +90,19 @@ def entry_order_cases():
 
 # The packed state.
 
-def three_calls(name, state, data, block):
-    """A read, a write and an erase of a block."""
+def five_calls(name, state, data, block):
+    """A read, a write and an erase of a block, and an erase in two operations."""
     yield request(name, "read", state, data, block, 1, filled(3), ANSWER)
     yield request(name, "write", state, data, block, 1, b"\x0f\xa5", ANSWER)
     yield request(name, "erase", state, data, words(block, 1, END))
+    yield request(name, "accept erase", state, data, words(block, 1, END), filled(8))
+    yield request(name, "carry erase", state, data, words(block, 1, END), bytes(8), 3)
+
+
+def two_of(calls, turn):
+    """Two of the five, by turns."""
+    five = list(calls)
+    return five[turn % 5], five[(turn + 2) % 5]
 
 
 def states():
@@ -118,19 +126,19 @@ def field_cases():
     """Each number of a state replaced."""
     for name, state, block in states():
         good, data = pack(state), filled(state.length)
-        yield from three_calls("state, %s, as it is" % name, good, data, block)
+        yield from five_calls("state, %s, as it is" % name, good, data, block)
         for field, width in FIELDS[1:]:
             place = place_of(field)
             for value in near(getattr(state, field), width):
                 changed = good[:place] + value.to_bytes(width, "little") + good[place + width:]
-                yield from three_calls("state, %s, %s %d" % (name, field, value), changed, data, block)
+                yield from five_calls("state, %s, %s %d" % (name, field, value), changed, data, block)
 
 
 def attribute_cases():
     """Each attribute bit changed, in both editions."""
     for edition, bit in product((1, 2), range(32)):
         state = packed(attributes=(ALL | ONES) ^ 1 << bit, edition=edition, base=8)
-        yield from three_calls("state of edition %d, attribute bit %d" % (edition, bit), state, filled(256), 3)
+        yield from five_calls("state of edition %d, attribute bit %d" % (edition, bit), state, filled(256), 3)
 
 
 def map_cases():
@@ -141,7 +149,7 @@ def map_cases():
             place, old = MAP + 4 * i, state.map[i]
             for turn, value in enumerate(sorted({0, old + 1, old ^ 1 << 16, 2**31, 2**32 - 1} - {old})):
                 changed = good[:place] + value.to_bytes(4, "little") + good[place + 4:]
-                yield list(three_calls("state, %s, map word %d is %d" % (name, i, value), changed, data, block))[(i + turn) % 3]
+                yield from two_of(five_calls("state, %s, map word %d is %d" % (name, i, value), changed, data, block), i + turn)
 
 
 def other_map_cases():
@@ -150,7 +158,7 @@ def other_map_cases():
         blocks = sum(map_words[::2])
         for block in sorted({0, 1, 2, blocks - 1, blocks}):
             name = "state with the map %s, block %d" % (map_words[:6], block)
-            yield from three_calls(name, packed(map_words), filled(256), block)
+            yield from five_calls(name, packed(map_words), filled(256), block)
 
 
 def bit_cases():
@@ -160,7 +168,7 @@ def bit_cases():
     for bit in range(8 * STATE_BYTES):
         changed = bytearray(good)
         changed[bit // 8] ^= 1 << bit % 8
-        yield list(three_calls("state, bit %d of byte %d" % (bit % 8, bit // 8), bytes(changed), data, block))[bit % 3]
+        yield from two_of(five_calls("state, bit %d of byte %d" % (bit % 8, bit // 8), bytes(changed), data, block), bit)
 
 
 def mark_cases():
@@ -169,7 +177,7 @@ def mark_cases():
     for mark in (0, 1, 255, 256, 257, 32768, 65535, 65536, 65537, 65536 + 256):
         state = pack(given(wide, 65536, ALL | ONES, mark=mark))
         for block in sorted({0, max(mark - 1, 0), mark, 65535, 65536}):
-            yield from three_calls("65,536 blocks, mark %d, block %d" % (mark, block), state, data, block)
+            yield from five_calls("65,536 blocks, mark %d, block %d" % (mark, block), state, data, block)
 
 
 # Chains, edges of the numbers, modes.

@@ -1,4 +1,4 @@
-"""Random requests of the C program c/calls.c: the parts of at_random.py, and packed states with random damage."""
+"""Random requests of the C program c/calls.c: the parts of at_random.py, packed states with random damage, chains of erase jobs."""
 
 from random import Random
 
@@ -6,10 +6,11 @@ from calls import filled, request
 from cases import again
 from cases.at_random import (EDGES, TYPES, some_attributes, some_good_entry, some_lent_image, some_longs, some_map, some_run,
                              some_state, some_stream, searched_stream)
+from cases.erase_jobs import Jobs
 from cases.headers import total
 from cases.loader import cut_or_more, words
 from cases.service import given
-from model.loader import ANSWER_BYTES, FIELDS, STATE_BYTES, pack, place_of
+from model.loader import ANSWER_BYTES, FIELDS, JOB_BYTES, STATE_BYTES, pack, place_of
 from model.volume import END_OF_LIST
 
 MODES = (0, 0, 0, 1, 1, 2, 256, 65536, 2**31, 2**32 - 1)
@@ -96,15 +97,73 @@ def some_service(r, name):
     data = r.choice((filled(lent, r.randrange(256)), r.randbytes(lent)))
     block = r.choice((r.randrange(blocks), r.randrange(blocks), blocks - 1, blocks, r.choice(EDGES)))
     offset = r.choice((0, 0, 1, 15, r.randrange(100), r.choice(EDGES)))
-    call = r.choice(("read", "write", "erase"))
+    call = r.choice(("read", "write", "erase", "accept erase", "carry erase"))
     if call == "erase":
         yield request(name, call, state, data, some_list(r, blocks))
+    elif call == "accept erase":
+        yield request(name, call, state, data, some_list(r, blocks), filled(some_length(r, JOB_BYTES)))
+    elif call == "carry erase":
+        job = cut_or_more(words(some_place(r, length)), some_length(r, JOB_BYTES))
+        yield request(name, call, state, data, some_list(r, blocks), job, some_place(r, length))
     else:
         yield request(name, call, state, data, block, offset, r.randbytes(r.choice((0, 1, r.randrange(20), r.randrange(120)))), some_answer(r))
 
 
 def some_chain(r, name):
     yield from again.requests([("service", some_run(r, name))])
+
+
+# Erase jobs.
+
+def some_place(r, length):
+    """A job, or a number of stores, of a volume of so many bytes."""
+    return r.choice((0, 0, 1, r.randrange(9), r.randrange(length), r.randrange(length), length, r.choice(EDGES)))
+
+
+def some_good_list(r, blocks):
+    """A lawful list, in most of which blocks are named again."""
+    firsts = [r.randrange(blocks) for _ in range(r.choice((1, 2, 3, 5, 12)))]
+    return words(*(word for first in firsts for word in (first, r.randint(1, min(blocks - first, r.choice((1, 3, blocks)))))), END_OF_LIST)
+
+
+def some_state_between(r, map_words, attributes):
+    """The state that a chain goes on with: mostly the same, else writes disabled, blocks protected, another erase value."""
+    off, other = attributes & ~0x20, attributes ^ 0x800
+    blocks = sum(map_words[::2])
+    chosen = r.choice((attributes,) * 12 + (off, other))
+    return pack(given(map_words, total(map_words), chosen, mark=r.choice((blocks,) * 12 + (r.randint(0, blocks),))))
+
+
+def some_step(r, chain, lists, job, length):
+    """A call of a chain: mostly the job last answered is carried on with its own list, which comes first."""
+    which = r.random()
+    own, other = lists[0], r.choice(lists)
+    if which < 0.55:
+        return chain.carry(own, job, r.choice((0, 1, 2, r.randrange(30), r.randrange(length), some_place(r, length))))
+    if which < 0.7:
+        return chain.carry(other, r.choice((0, job, job, max(job - r.randrange(20), 0), some_place(r, length))), some_place(r, length))
+    if which < 0.8:
+        return chain.write(r.randrange(9), r.randrange(20), r.randbytes(r.randrange(30)))
+    if which < 0.85:
+        return chain.read(r.randrange(9), r.randrange(40))
+    if which < 0.9:
+        return chain.erase(other)
+    return chain.accept(own)
+
+
+def some_job_chain(r, name):
+    """A list accepted and carried on, with other calls, lists and jobs between, on a small volume of mixed block lengths."""
+    map_words = [1, r.choice((100, 140))] + some_map(r)
+    length, blocks = total(map_words), sum(map_words[::2])
+    attributes = 0x3F | r.choice((0, 0x200)) | r.choice((0, 0x800))
+    lists = [some_good_list(r, blocks), some_good_list(r, blocks), some_list(r, blocks)]
+    chain, job = Jobs(name, volume=r.randbytes(length + r.choice((0, 0, 7)))), 0
+    yield chain.accept(lists[0], pack(given(map_words, length, attributes)))
+    for _ in range(r.randint(3, 12)):
+        chain.state = some_state_between(r, map_words, attributes)
+        done = some_step(r, chain, lists, job, length)
+        job = chain.job() if done.call == "carry erase" and done.number == 4 else job
+        yield done
 
 
 # Sections.
@@ -128,7 +187,8 @@ def some_append(r, name):
     yield request(name, "append", mode, cut_or_more(old, room), used, kind, r.randbytes(r.randrange(40)), some_answer(r))
 
 
-KINDS = (some_open, some_entry, some_service, some_service, some_service, some_service, some_chain, some_search, some_search, some_append)
+KINDS = (some_open, some_entry, some_service, some_service, some_service, some_service, some_chain, some_job_chain, some_search, some_search,
+         some_append)
 
 
 def requests(seed, part, count):

@@ -8,9 +8,9 @@ Ranges that are not const are bytearrays and are changed in place; a range that 
 from model import sections, volume
 from model.volume import State
 
-STATE_BYTES, ANSWER_BYTES = 304, 16
-SHORT_STATE_OR_ANSWER = 5
-SUCCESS, SHORT = 0, 4
+STATE_BYTES, ANSWER_BYTES, JOB_BYTES = 304, 16, 8
+SHORT_STATE_OR_ANSWER = 5       # or job
+SUCCESS, SHORT, NOT_FINISHED = 0, 4, 4
 
 
 def number(data, place, width):
@@ -59,7 +59,7 @@ def words_of(data):
     return [number(data, i, 8) for i in range(0, len(data) - 7, 8)]
 
 
-# The eight calls.
+# The ten calls.
 
 def fv_open(state, data, base):
     if len(state) < STATE_BYTES:
@@ -86,6 +86,24 @@ def fv_erase(state, data, blocks):
     if len(state) < STATE_BYTES:
         return SHORT_STATE_OR_ANSWER
     return volume.erase_blocks(unpack(state), data, words_of(blocks))[0]
+
+
+def fv_accept_erase(state, data, blocks, job):
+    if len(state) < STATE_BYTES or len(job) < JOB_BYTES:
+        return SHORT_STATE_OR_ANSWER
+    no, accepted = volume.accept_erase(unpack(state), data, words_of(blocks))
+    if no == SUCCESS:
+        job[:JOB_BYTES] = accepted.to_bytes(JOB_BYTES, "little")
+    return no
+
+
+def fv_carry_erase(state, data, blocks, job, stores):
+    if len(state) < STATE_BYTES or len(job) < JOB_BYTES:
+        return SHORT_STATE_OR_ANSWER
+    no, stands = volume.carry_erase(unpack(state), data, words_of(blocks), number(job, 0, JOB_BYTES), stores)
+    if no == NOT_FINISHED:
+        job[:JOB_BYTES] = stands.to_bytes(JOB_BYTES, "little")
+    return no
 
 
 def fv_search(mode, stream, kind, instance, answer):

@@ -1,7 +1,7 @@
-"""Firmware volumes, as the scope document describes them, with requests a, b, d
-and j of 02: opening, header writing, the calls of the block service (the seven
-of the scope document, and j's setting of the mark) and the entries of the
-extended header.
+"""Firmware volumes, as the scope document describes them, with requests a, b, d,
+g and j of 02: opening, header writing, the calls of the block service (the seven
+of the scope document, j's setting of the mark, and g's two operations of an
+erase) and the entries of the extended header.
 
 Every function answers (number, values...): 0 for success, 4 for short, else
 the refusal number. Lent bytes are bytearrays and are changed in place.
@@ -338,23 +338,98 @@ def erase_pairs(words, blocks):
     return None
 
 
+def number_of_blocks(state):
+    return sum(count for _, count, _, _ in entries_of(state))
+
+
+def erase_stretch(state, volume, first, end):
+    value = 0xFF if state.attributes & ERASE_ONE else 0
+    volume[first:end] = bytes([value]) * (end - first)
+
+
 def erase_blocks(state, volume, words):
-    """(number,)"""
+    """(number,): each block that is named, in the order of the volume"""
     no = refused(state, volume, WRITE_STATUS)
     if no:
         return (no,)
-    blocks = sum(count for _, count, _, _ in entries_of(state))
-    pairs = erase_pairs(words, blocks)
+    named = bytearray(number_of_blocks(state))
+    pairs = erase_pairs(words, len(named))
     if pairs is None:
         return (2,)
-    named = [block for first, count in pairs for block in range(first, first + count)]
-    if any(block >= state.first_protected for block in named):
+    for first, count in pairs:
+        named[first:first + count] = b"\1" * count
+    if any(named[state.first_protected:]):
         return (15,)
-    value = 0xFF if state.attributes & ERASE_ONE else 0
-    for block in named:
-        place, length = find_block(state, block)
-        volume[place:place + length] = bytes([value]) * length
+    for block, is_named in enumerate(named):
+        if is_named:
+            place, length = find_block(state, block)
+            erase_stretch(state, volume, place, place + length)
     return (0,)
+
+
+# Request g. A job is the number of bytes of the list's order that were stored.
+
+def first_named_runs(pairs, blocks):
+    """(first block, end) of runs of blocks, in the order in which the pairs first name them; each block is in one run"""
+    named = bytearray(blocks)
+    for first, count in pairs:
+        end = first + count
+        block = named.find(0, first, end)
+        while block >= 0:
+            run_end = named.find(1, block, end)
+            run_end = end if run_end < 0 else run_end
+            named[block:run_end] = b"\1" * (run_end - block)
+            yield block, run_end
+            block = named.find(0, run_end, end)
+
+
+def byte_order(state, pairs):
+    """The order of bytes as stretches (first byte, end): blocks as the list first names them, bytes upward, each once"""
+    stretches = []
+    for block, run_end in first_named_runs(pairs, number_of_blocks(state)):
+        last, length = find_block(state, run_end - 1)
+        stretches.append((find_block(state, block)[0], last + length))
+    return stretches
+
+
+def order_length(order):
+    return sum(end - first for first, end in order)
+
+
+def erase_order(state, volume, words, job):
+    """(number, order of bytes): the refusals of both operations, of which acceptance has the job 0"""
+    no = refused(state, volume, WRITE_STATUS)
+    if no:
+        return no, []
+    pairs = erase_pairs(words, number_of_blocks(state))
+    if pairs is None:
+        return 2, []
+    order = byte_order(state, pairs)
+    if job != 0 and job >= order_length(order):
+        return 2, []
+    if any(first + count > state.first_protected for first, count in pairs):
+        return 15, []
+    return 0, order
+
+
+def accept_erase(state, volume, words):
+    """(number, job)"""
+    return erase_order(state, volume, words, 0)[0], 0
+
+
+def carry_erase(state, volume, words, job, stores):
+    """(number, job): 0 finished, or 4 and the job as it now stands"""
+    no, order = erase_order(state, volume, words, job)
+    if no:
+        return no, 0
+    stop = min(job + stores, order_length(order))
+    before = 0      # bytes of the order before the stretch
+    for first, end in order:
+        start, cut = max(job - before, 0), min(stop - before, end - first)
+        if start < cut:
+            erase_stretch(state, volume, first + start, first + cut)
+        before += end - first
+    return (0, 0) if stop == before else (4, stop)
 
 
 def listing(data):

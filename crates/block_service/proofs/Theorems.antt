@@ -1,37 +1,40 @@
--- What a reader of document 01 may want to know of the block service, beyond the contracts of src/: each theorem with the document's words, in 01's order.
+-- What a reader of documents 01 and 02 may want to know of the block service, beyond the contracts of src/: each theorem with the document's words, in 01's order.
 -- `step st v c` is the call c on the state st and the lent volume v; its result has the answer, and the state, the volume and the reader's buffer
 -- afterwards. The proofs are citations; the laws stand under the module of src/ that they serve.
 use Prim.Native.Nat.{ℕ, _+_, _-_, _*_, _/_, _%_, _^_, _≤_, _<_}
-use mathlib.Core.Bool.{true, false, not}
+use mathlib.Core.Bool.{true, false, not, cond, _&&_}
 use mathlib.Core.List.{List, [], _∷_, _++_}
 use mathlib.Core.Option.{some}
 use mathlib.Core.Path.{_≡_, sym}
 use lib.Bits.{bitAnd, bitOr}
-use lib.Dec.{T, leb}
+use lib.Dec.{T, leb, ltb}
 use lib.ListN.{length, getD, take, drop}
-use Rattle.common.specs.Answers.{refused, success}
+use Rattle.common.specs.Answers.{refused, success, short}
 use Rattle.common.specs.Lists.{edit}
 use Rattle.common.specs.Refusals.{firstRefusal, row}
 use Rattle.common.proofs.Bits.{bit}
 use Rattle.numbers.specs.LittleEndian.{le}
 use Rattle.volume.specs.Attributes.{flag, readStatus, writeStatus, lockStatus, readLockStatus, writeLockStatus, stickyWrite, memoryMapped, erasePolarity}
-use Rattle.volume.specs.BlockMap.{blocks}
+use Rattle.volume.specs.BlockMap.{blocks, bytes}
 use Rattle.volume.specs.State.{mapOf, unlawful}
 use Rattle.volume.specs.declared.state.State.{State}
 use Rattle.block_service.specs.Access.{countMoved, writtenByte, erasedByte, changedByte, writeChange}
-use Rattle.block_service.specs.Blocks.{place, HasLength, startOf, consecutiveBlocks, inBlock}
+use Rattle.block_service.specs.Blocks.{place, HasLength, startOf, consecutiveBlocks, inBlock, blockAt}
 use Rattle.block_service.specs.Erase.{endOfList, goodList, names, reaches, eraseChange, listWords}
-use Rattle.block_service.specs.Service.{Call, getAttributes, getPhysicalAddress, setAttributes, getBlockSize, read, write, eraseBlocks, protectBlocks}
+use Rattle.block_service.specs.Order.{upFrom, member, firsts, part, namedBlocks, bytesOf, eraseOrder, jobGiven, carryChange, finishes}
+use Rattle.block_service.specs.Service.{Call, getAttributes, getPhysicalAddress, setAttributes, getBlockSize, read, write, eraseBlocks, protectBlocks, acceptErase, carryErase, carryAnswer}
 use Rattle.block_service.specs.Service.{lentRefusals, refusals, moveAnswer, withAttributes, withProtected, result, bufferOf, step}
 use Rattle.settings.specs.Settings.{statusBits, changesFixed, changesLocked, lacksCapability}
 use Rattle.block_service.specs.declared.blocks.Place.the-variants.{At}
 use Rattle.block_service.proofs.access.Moves as Moves
 use Rattle.block_service.proofs.blocks.Places as Places
+use Rattle.block_service.proofs.carry.Orders as Orders
 use Rattle.block_service.proofs.erase.ByteLists as ByteLists
 use Rattle.block_service.proofs.erase.Lists as Lists
 use Rattle.block_service.proofs.blocks.Runs as Runs
 use Rattle.settings.proofs.Rules as Rules
 use Rattle.block_service.proofs.service.Erasing as Erasing
+use Rattle.block_service.proofs.service.Jobs as Jobs
 use Rattle.block_service.proofs.service.Kept as Kept
 use Rattle.block_service.proofs.service.Moving as Moving
 use Rattle.block_service.proofs.service.Protecting as Protecting
@@ -158,7 +161,7 @@ refused-changes-nothing = Steps.refused-changes-nothing
 pub past-length-kept : (st : State) (v : List ℕ) (c : Call) (i : ℕ) → st .length ≤ i → getD (step st v c .volume) i 0 ≡ getD v i 0
 past-length-kept = Kept.past-length-kept
 
--- nor do the length of the lent volume, the map, the edition, and that the state breaks no rule
+-- nor do the length of the lent volume, the map, the edition, the erase value, and that the state breaks no rule
 pub length-kept : (st : State) (v : List ℕ) (c : Call) → length (step st v c .volume) ≡ length v
 length-kept = Kept.length-kept
 
@@ -167,6 +170,9 @@ map-kept = Kept.map-kept
 
 pub edition-kept : (st : State) (v : List ℕ) (c : Call) → step st v c .state .edition ≡ st .edition
 edition-kept = Kept.edition-kept
+
+pub erase-value-kept : (st : State) (v : List ℕ) (c : Call) → erasedByte (step st v c .state .attributes) ≡ erasedByte (st .attributes)
+erase-value-kept = Kept.erase-value-kept
 
 pub lawful-kept : (st : State) (v : List ℕ) (c : Call) → unlawful st ≡ false → unlawful (step st v c .state) ≡ false
 lawful-kept = Kept.lawful-kept
@@ -452,3 +458,144 @@ unprotected-write = Erasing.unprotected-write
 pub unprotected-erase : (st : State) (n : ℕ) → st .protected ≡ blocks (mapOf st) → (list : List ℕ)
     → firstRefusal (refusals st n (eraseBlocks list)) ≡ firstRefusal (lentRefusals st n writeStatus ++ (row (not (goodList (blocks (mapOf st)) list)) 2 ∷ []))
 unprotected-erase = Erasing.unprotected-erase
+
+-- ---- erasing in two operations (02, g)
+
+-- "Blocks go as the list first names them, bytes upward, each once", of a good list: a byte is in the order exactly where the list names its block
+pub order-named : (m list : List ℕ) → goodList (blocks m) list ≡ true → (i : ℕ) → member i (eraseOrder m list) ≡ names list (blockAt m i)
+order-named m list good i = Orders.order-named m list i (Lists.names-within (blocks m) list good)
+
+-- "each once": no byte stands twice in it
+pub each-once : (m list : List ℕ) → goodList (blocks m) list ≡ true → (j k : ℕ) → j < length (eraseOrder m list) → k < length (eraseOrder m list)
+    → getD (eraseOrder m list) j 0 ≡ getD (eraseOrder m list) k 0 → j ≡ k
+each-once m list good = Orders.once-placed m list (Lists.names-within (blocks m) list good)
+
+-- so it has at most the bytes that the blocks have
+pub order-length : (m list : List ℕ) → goodList (blocks m) list ≡ true → length (eraseOrder m list) ≤ bytes m
+order-length m list good = Orders.order-short m list (Lists.names-within (blocks m) list good)
+
+-- "as the list first names them": all blocks of the first pair come first, in their order, and then those that the words after it name and the pair does not;
+-- at the terminator there is nothing
+pub order-pair : (m list : List ℕ) (first count : ℕ) → (first ≡ endOfList → ⊥)
+    → eraseOrder m (first ∷ count ∷ list)
+    ≡ bytesOf m (upFrom first count) ++ bytesOf m (firsts (λ b. leb first b && ltb b (first + count)) (namedBlocks list))
+order-pair = Orders.order-pair
+
+pub order-end : (m list : List ℕ) → eraseOrder m (endOfList ∷ list) ≡ []
+order-end = Orders.order-end
+
+-- "bytes upward": number k of the bytes of a run of blocks is the k-th after the first byte of the run's first block
+pub order-upward : (m : List ℕ) (b n : ℕ) → b + n ≤ blocks m → (k : ℕ) → k < length (bytesOf m (upFrom b n))
+    → getD (bytesOf m (upFrom b n)) k 0 ≡ startOf (place m b) + k
+order-upward = Orders.run-upward
+
+-- "One operation accepts the list and answers a job", "111, 5, 15 and 2 at acceptance as before": a list is accepted exactly where its erase succeeds, with the
+-- job 0, and refused with the number with which its erase is; nothing is stored
+pub accept-as-erase : (st : State) (v list : List ℕ)
+    → (step st v (eraseBlocks list) .answer ≡ success [] → step st v (acceptErase list) ≡ result (success (0 ∷ [])) st v [])
+    × ((n : ℕ) → step st v (eraseBlocks list) .answer ≡ refused n → step st v (acceptErase list) ≡ result (refused n) st v [])
+accept-as-erase = Jobs.accept-as-erase
+
+pub accept-stores-nothing : (st : State) (v list : List ℕ) → step st v (acceptErase list) .volume ≡ v
+accept-stores-nothing = Jobs.accept-stores-nothing
+
+-- "the other carries it on by a given number of byte stores or, if fewer, what is left": with the state, the volume, the settings and the list as an erase needs
+-- them and a job that is given, it answers and changes the next bytes of the order
+pub carry-allowed : (st : State) (v list : List ℕ) → unlawful st ≡ false → st .length ≤ length v → flag (st .attributes) writeStatus ≡ true
+    → goodList (blocks (mapOf st)) list ≡ true → ((b : ℕ) → T (names list b) → b < st .protected) → (job n : ℕ) → jobGiven (mapOf st) list job ≡ true
+    → step st v (carryErase list job n)
+    ≡ result (carryAnswer (finishes (mapOf st) list job n) (job + n)) st (edit (λ i old. changedByte (st .attributes) (carryChange (mapOf st) list job n i) old) 0 v) []
+carry-allowed = Jobs.carry-allowed
+
+-- which get the erase value; every other byte is as before
+pub carry-byte : (st : State) (v list : List ℕ) (job n : ℕ) → ((k : ℕ) → step st v (carryErase list job n) .answer ≡ refused k → ⊥) → (i : ℕ) → i < length v
+    → getD (step st v (carryErase list job n) .volume) i 0
+    ≡ cond (member i (part job (job + n) (eraseOrder (mapOf st) list))) (erasedByte (st .attributes)) (getD v i 0)
+carry-byte = Jobs.carry-byte
+
+-- "it answers finished exactly when nothing is left then, otherwise the job as it now stands"
+pub carry-finished : (st : State) (v list : List ℕ) (job n : ℕ) → step st v (carryErase list job n) .answer ≡ success [] → length (eraseOrder (mapOf st) list) ≤ job + n
+carry-finished = Jobs.carry-finished
+
+pub carry-unfinished : (st : State) (v list : List ℕ) (job n k : ℕ) → step st v (carryErase list job n) .answer ≡ short (k ∷ [])
+    → (k ≡ job + n) × (k < length (eraseOrder (mapOf st) list))
+carry-unfinished = Jobs.carry-unfinished
+
+-- by 0 stores nothing changes, whatever is answered
+pub carry-none : (st : State) (v list : List ℕ) (job : ℕ) → step st v (carryErase list job 0) .volume ≡ v
+carry-none = Jobs.carry-none
+
+-- portions add up: carrying on by n and then, from the job answered, by k is carrying on by n + k
+pub portions-add : (st : State) (v list : List ℕ) (job n j k : ℕ) → step st v (carryErase list job n) .answer ≡ short (j ∷ [])
+    → step (step st v (carryErase list job n) .state) (step st v (carryErase list job n) .volume) (carryErase list j k) ≡ step st v (carryErase list job (n + k))
+portions-add = Jobs.portions-add
+
+-- "The old erase becomes accepting, then carrying on to the end, its promise unchanged": where the list is refused, so is its erase; where it is accepted, carrying
+-- on from the job answered, by as many stores as the order has bytes or any more, answers and leaves what the erase does
+pub two-operations : (st : State) (v list : List ℕ) (n : ℕ) → length (eraseOrder (mapOf st) list) ≤ n
+    → ((k : ℕ) → step st v (acceptErase list) .answer ≡ refused k → step st v (eraseBlocks list) ≡ result (refused k) st v [])
+    × ((job : ℕ) → step st v (acceptErase list) .answer ≡ success (job ∷ [])
+    → step (step st v (acceptErase list) .state) (step st v (acceptErase list) .volume) (carryErase list job n) ≡ step st v (eraseBlocks list))
+two-operations = Jobs.two-operations
+
+-- for which the length of the lent volume is enough
+pub order-within : (st : State) (v list values : List ℕ) → step st v (acceptErase list) .answer ≡ success values → length (eraseOrder (mapOf st) list) ≤ length v
+order-within = Jobs.order-within
+
+-- "a job that this map and list never give": those given are 0, which acceptance answers, and the numbers below the length of the order. Every job answered is
+-- given, and every one given is answered; any other is refused (`jobs-2-job`)
+pub answered-given : (st : State) (v list : List ℕ) (job n k : ℕ) → step st v (carryErase list job n) .answer ≡ short (k ∷ []) → jobGiven (mapOf st) list k ≡ true
+answered-given = Jobs.answered-given
+
+pub given-answered : (st : State) (v list values : List ℕ) → step st v (acceptErase list) .answer ≡ success values
+    → (job : ℕ) → jobGiven (mapOf st) list job ≡ true → 0 < job → step st v (carryErase list 0 job) .answer ≡ short (job ∷ [])
+given-answered = Jobs.given-answered
+
+-- "carrying on gives 111, 5, 15, then 2 for a bad list or a job that this map and list never give", and acceptance as before: 111 is `order-111`, then 5
+pub jobs-5 : (st : State) (v list : List ℕ) → unlawful st ≡ false → length v < st .length
+    → (step st v (acceptErase list) ≡ result (refused 5) st v []) × ((job n : ℕ) → step st v (carryErase list job n) ≡ result (refused 5) st v [])
+jobs-5 = Jobs.jobs-5
+
+-- then 15
+pub jobs-15 : (st : State) (v list : List ℕ) → unlawful st ≡ false → st .length ≤ length v → flag (st .attributes) writeStatus ≡ false
+    → (step st v (acceptErase list) ≡ result (refused 15) st v []) × ((job n : ℕ) → step st v (carryErase list job n) ≡ result (refused 15) st v [])
+jobs-15 = Jobs.jobs-15
+
+-- then 2: a bad list, and a job that is not given
+pub jobs-2 : (st : State) (v list : List ℕ) → unlawful st ≡ false → st .length ≤ length v → flag (st .attributes) writeStatus ≡ true
+    → goodList (blocks (mapOf st)) list ≡ false
+    → (step st v (acceptErase list) ≡ result (refused 2) st v []) × ((job n : ℕ) → step st v (carryErase list job n) ≡ result (refused 2) st v [])
+jobs-2 = Jobs.jobs-2
+
+pub jobs-2-job : (st : State) (v list : List ℕ) → unlawful st ≡ false → st .length ≤ length v → flag (st .attributes) writeStatus ≡ true
+    → goodList (blocks (mapOf st)) list ≡ true → (job n : ℕ) → jobGiven (mapOf st) list job ≡ false → step st v (carryErase list job n) ≡ result (refused 2) st v []
+jobs-2-job = Jobs.jobs-2-job
+
+-- then "15 for a protected block .. anywhere in the erase list, after every 2, at both steps of g) too" (02, j)
+pub jobs-15-protected : (st : State) (v list : List ℕ) → unlawful st ≡ false → st .length ≤ length v → flag (st .attributes) writeStatus ≡ true
+    → goodList (blocks (mapOf st)) list ≡ true → (b : ℕ) → T (names list b) → st .protected ≤ b
+    → (step st v (acceptErase list) ≡ result (refused 15) st v [])
+    × ((job n : ℕ) → jobGiven (mapOf st) list job ≡ true → step st v (carryErase list job n) ≡ result (refused 15) st v [])
+jobs-15-protected = Jobs.jobs-15-protected
+
+-- "The supply fails in thunderstorms": after `made` stores of an accepted list, carrying on from an earlier job, to the cut or past it, answers and leaves what carrying
+-- on without a cut does. The power cut over whole runs: `power-cut` of isolation
+pub again : (st : State) (v list values : List ℕ) → step st v (acceptErase list) .answer ≡ success values → (made job n : ℕ) → job ≤ made → made ≤ job + n
+    → jobGiven (mapOf st) list job ≡ true → step st (step st v (carryErase list 0 made) .volume) (carryErase list job n) ≡ step st v (carryErase list 0 (job + n))
+again = Jobs.again
+
+-- a cut inside a call may leave the bytes of its portion, those from `from` on and below `to` in the order, in any mix: of a volume w that a portion of an accepted
+-- list was started on and a volume u that differs from it only in bytes of that portion, carrying on from that portion's job or an earlier one, to the portion's end
+-- or past it, makes the same
+pub mended : (st : State) (v list values : List ℕ) → step st v (acceptErase list) .answer ≡ success values → (u w : List ℕ) (job n from to : ℕ)
+    → length u ≡ length v → length w ≡ length v → job ≤ from → to ≤ job + n → jobGiven (mapOf st) list job ≡ true
+    → ((i : ℕ) → member i (part from to (eraseOrder (mapOf st) list)) ≡ false → getD u i 0 ≡ getD w i 0)
+    → step st u (carryErase list job n) ≡ step st w (carryErase list job n)
+mended = Jobs.mended
+
+-- so, whatever such a cut left, carrying on from there or from any earlier job to the end answers and leaves what the whole erase does
+pub cut-inside : (st : State) (v list values : List ℕ) → step st v (acceptErase list) .answer ≡ success values → (u : List ℕ) (job n from to : ℕ)
+    → length u ≡ length v → job ≤ from → from ≤ to → to ≤ job + n → length (eraseOrder (mapOf st) list) ≤ job + n → jobGiven (mapOf st) list job ≡ true
+    → ((i : ℕ) → member i (part from to (eraseOrder (mapOf st) list)) ≡ false → getD u i 0 ≡ getD (step st v (carryErase list 0 from) .volume) i 0)
+    → step st u (carryErase list job n) ≡ step st v (eraseBlocks list)
+cut-inside = Jobs.cut-inside

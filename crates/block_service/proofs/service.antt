@@ -1,4 +1,6 @@
+pub mod Carrying
 pub mod Erasing
+pub mod Jobs
 pub mod Kept
 pub mod Moving
 pub mod Protecting

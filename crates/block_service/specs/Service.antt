@@ -1,8 +1,8 @@
--- The block service (document 01, and document 02, j): what each of the eight calls answers, and what it leaves in the state, in the volume and in the
+-- The block service (document 01, and document 02, g and j): what each of the ten calls answers, and what it leaves in the state, in the volume and in the
 -- reader's buffer. A call is decided from the state, the length of the lent volume and its arguments alone; only the effect that was
 -- decided on touches bytes.
 use Prim.Native.Nat.{ℕ, _+_}
-use mathlib.Core.Bool.{not, cond}
+use mathlib.Core.Bool.{Bool, not, cond}
 use mathlib.Core.List.{List, [], _∷_, _++_}
 use mathlib.Core.Option.{Option, none, some}
 use lib.Dec.{eqb, leb, ltb}
@@ -17,6 +17,7 @@ use Rattle.volume.specs.declared.state.State.{State}
 use Rattle.block_service.specs.Access.{countMoved, ByteChange, changedByte, writeChange}
 use Rattle.block_service.specs.Blocks.{place, startOf, lengthOf, consecutiveBlocks}
 use Rattle.block_service.specs.Erase.{goodList, reaches, eraseChange}
+use Rattle.block_service.specs.Order.{jobGiven, carryChange, finishes}
 use Rattle.settings.specs.Settings.{settingRefusals}
 use Rattle.block_service.specs.declared.check.Check
 use Rattle.block_service.specs.declared.service.Settings
@@ -26,6 +27,8 @@ use Rattle.block_service.specs.declared.service.Moved
 use Rattle.block_service.specs.declared.service.Erased
 use Rattle.block_service.specs.declared.service.Protection
 use Rattle.block_service.specs.declared.service.Reach
+use Rattle.block_service.specs.declared.service.Accepted
+use Rattle.block_service.specs.declared.service.Progress
 
 -- the answer that each case of the calls' enums stands for
 unfoldable pub settingsAnswer : Settings.Settings → Answer
@@ -53,8 +56,19 @@ unfoldable pub protectionAnswer : Protection.Protection → Answer
 protectionAnswer Protection.the-variants.Success = success []
 protectionAnswer (Protection.the-variants.Refused n) = refused n
 
--- the eight calls with their arguments: a read comes with its buffer, a write with its data, an erase with its list. `protectBlocks` sets the first
--- protected block (document 02, j: the mark)
+-- 02, g: acceptance "answers a job"
+unfoldable pub acceptedAnswer : Accepted.Accepted → Answer
+acceptedAnswer (Accepted.the-variants.Job job) = success (job ∷ [])
+acceptedAnswer (Accepted.the-variants.Refused n) = refused n
+
+-- 02, g: carrying on "answers finished exactly when nothing is left then, otherwise the job as it now stands": success, or short with the job
+unfoldable pub progressAnswer : Progress.Progress → Answer
+progressAnswer Progress.the-variants.Finished = success []
+progressAnswer (Progress.the-variants.Job job) = short (job ∷ [])
+progressAnswer (Progress.the-variants.Refused n) = refused n
+
+-- the ten calls with their arguments: a read comes with its buffer, a write with its data, an erase with its list. `protectBlocks` sets the first
+-- protected block (document 02, j: the mark). Document 02, g: `acceptErase` accepts an erase list, `carryErase list job n` carries a job of that list on by n stores
 pub data Call : Type 0 where
   getAttributes : Call
   setAttributes : ℕ → Call
@@ -64,6 +78,8 @@ pub data Call : Type 0 where
   write : ℕ → ℕ → List ℕ → Call
   eraseBlocks : List ℕ → Call
   protectBlocks : ℕ → Call
+  acceptErase : List ℕ → Call
+  carryErase : List ℕ → ℕ → ℕ → Call
 
 -- the refusals that the calls begin with to which a volume of n bytes is lent, first that applies: 111, then 5, then 15 where the
 -- status (reads or writes are enabled) is off
@@ -76,7 +92,8 @@ lentRefusals st n status =
 
 -- the refusals of a call on a lent volume of n bytes, first that applies: 111, then 5 (calls that are lent the volume), then 15, then 2,
 -- except as said for settings; the base address 111, then 3. By 02, j: "15 for a protected block written or anywhere in the erase list, after every 2";
--- setting the first protected block "gives 111, then 2 for raising it, nothing else"
+-- setting the first protected block "gives 111, then 2 for raising it, nothing else". By 02, g: "111, 5, 15 and 2 at acceptance as before; carrying on gives
+-- 111, 5, 15, then 2 for a bad list or a job that this map and list never give"; 15 for a protected block "at both steps of g) too" (j)
 unfoldable pub refusals : State → ℕ → Call → List Row
 refusals st n getAttributes = row (unlawful st) 111 ∷ []
 refusals st n (setAttributes new) = row (unlawful st) 111 ∷ settingRefusals (st .edition) (st .attributes) new
@@ -88,6 +105,14 @@ refusals st n (write block offset new) =
 refusals st n (eraseBlocks list) =
     lentRefusals st n writeStatus ++ (row (not (goodList (blocks (mapOf st)) list)) 2 ∷ row (reaches (st .protected) list) 15 ∷ [])
 refusals st n (protectBlocks first) = row (unlawful st) 111 ∷ row (ltb (st .protected) first) 2 ∷ []
+refusals st n (acceptErase list) =
+    lentRefusals st n writeStatus ++ (row (not (goodList (blocks (mapOf st)) list)) 2 ∷ row (reaches (st .protected) list) 15 ∷ [])
+refusals st n (carryErase list job stores) =
+    lentRefusals st n writeStatus
+    ++ (row (not (goodList (blocks (mapOf st)) list)) 2
+    ∷ row (not (jobGiven (mapOf st) list job)) 2
+    ∷ row (reaches (st .protected) list) 15
+    ∷ [])
 
 -- what a call does: it only answers; it answers with another state; it copies `count` bytes of the volume from byte `at` on to the start of
 -- the reader's buffer; or it changes bytes of the volume, each by its number
@@ -109,6 +134,10 @@ withAttributes st a = stateWith (st .guid) (st .length) a (st .base) (st .editio
 unfoldable pub withProtected : State → ℕ → State
 withProtected st first = stateWith (st .guid) (st .length) (st .attributes) (st .base) (st .edition) first (st .entries) (st .map)
 
+-- the answer to a carrying on: finished, or the job as it now stands
+unfoldable pub carryAnswer : Bool → ℕ → Answer
+carryAnswer finished job = cond finished (success []) (short (job ∷ []))
+
 -- what a call that is not refused does
 unfoldable pub effect : State → Call → Effect
 effect st getAttributes = reply (success (st .attributes ∷ []))
@@ -125,6 +154,8 @@ effect st (write block offset new) =
     change (writeChange (startOf found + offset) count new) (moveAnswer count (length new))
 effect st (eraseBlocks list) = change (eraseChange (mapOf st) list) (success [])
 effect st (protectBlocks first) = setTo (withProtected st first) (success [])
+effect st (acceptErase list) = reply (success (0 ∷ []))
+effect st (carryErase list job stores) = change (carryChange (mapOf st) list job stores) (carryAnswer (finishes (mapOf st) list job stores) (job + stores))
 
 -- what a call does, from the state, the length of the lent volume and the arguments
 unfoldable pub decide : State → ℕ → Call → Effect
@@ -158,6 +189,8 @@ bufferOf (read block offset buffer) = buffer
 bufferOf (write block offset new) = []
 bufferOf (eraseBlocks list) = []
 bufferOf (protectBlocks first) = []
+bufferOf (acceptErase list) = []
+bufferOf (carryErase list job stores) = []
 
 -- a call on a state and a volume
 unfoldable pub step : State → List ℕ → Call → Result

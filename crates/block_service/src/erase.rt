@@ -1,21 +1,16 @@
 // Erasing the blocks that a list names. The list comes in two parts, so that one of words and one of bytes are each read where
 // they stand: the words of `list`, and after them those of the bytes `tail`, eight to a word.
-ghost use mathlib.Core.Bool.{true, not, cond, _&&_};
+ghost use mathlib.Core.Bool.{not, _&&_};
 ghost use mathlib.Core.List.{[], _∷_};
 ghost use mathlib.Core.Path.{_≡_};
-ghost use Prim.Native.Nat.{_+_, _≤_, _<_};
-ghost use lib.Dec.{eqb, leb, ltb};
+ghost use Prim.Native.Nat.{_+_};
+ghost use lib.Dec.{eqb, leb};
 ghost use lib.ListN.{length, getD};
 ghost use Rattle.common.specs.Refusals.{firstRefusal, row};
-ghost use Rattle.volume.specs.BlockMap.{blocks, bytes, maxLength};
-ghost use Rattle.block_service.specs.Blocks.{blockAt};
 ghost use Rattle.block_service.specs.Access.{erasedByte};
-ghost use Rattle.block_service.specs.Erase.{goodList, names, reaches, wholeList};
+ghost use Rattle.block_service.specs.Erase.{goodList, reaches, wholeList};
 ghost use Rattle.block_service.specs.Service.{refusalOf};
 ghost use Rattle.common.specs.Lists.{edit};
-use crate::blocks::Place;
-use crate::blocks::find_block;
-use crate::blocks::run_end;
 use crate::check::Check;
 use numbers::u64_at;
 use volume::attributes::ERASE_POLARITY;
@@ -56,14 +51,14 @@ pub(crate) fn list_refusal(total: u64, protected: u64, list: &[u64], tail: &[u8]
 }
 
 // The number of words of an erase list. A part word at the end of its bytes is none.
-fn word_count(list: &[u64], tail: &[u8]) -> usize
+pub(crate) fn word_count(list: &[u64], tail: &[u8]) -> usize
     ensures { λ r. ⌜ r ≡ length (wholeList (now (list .entry)) (now (tail .entry))) ⌝ }
 {
     list.len() + tail.len() / 8
 }
 
 // Word i of an erase list; past its end 0. A part of 8 bytes is lent to the reader, so that no test of the bound is compiled.
-fn word_at(list: &[u64], tail: &[u8], i: usize) -> u64
+pub(crate) fn word_at(list: &[u64], tail: &[u8], i: usize) -> u64
     ensures { λ r. ⌜ r ≡ getD (wholeList (now (list .entry)) (now (tail .entry))) i 0 ⌝ }
 {
     let n = list.len();
@@ -106,51 +101,8 @@ fn pair_fits(total: u64, first: u64, count: u64) -> bool
     false
 }
 
-// Erases the blocks that a good list names.
-pub(crate) fn erase_list(words: &[u32], volume: &mut [u8], list: &[u64], tail: &[u8], value: u8)
-    requires { ⌜ bytes (now words) ≤ maxLength ⌝ }
-    requires { ⌜ bytes (now words) ≤ length (now volume) ⌝ }
-    requires { ⌜ goodList (blocks (now words)) (wholeList (now list) (now tail)) ≡ true ⌝ }
-    ensures { λ _. ⌜ now (volume .exit)
-        ≡ edit (λ i old. cond (names (wholeList (now (list .entry)) (now (tail .entry))) (blockAt (now (words .entry)) i)) value old) 0 (now (volume .entry)) ⌝ }
-{
-    let n = word_count(list, tail);
-    let mut i = 0;
-    while i < n {
-        let first = word_at(list, tail, i);
-        if first == END_OF_LIST {
-            return;
-        }
-        let count = word_at(list, tail, i + 1);
-        erase_run(words, volume, first, count, value);
-        i += 2;
-    }
-}
-
-// Erases `count` blocks from the first on: one map scan, and one fill of their bytes.
-fn erase_run(words: &[u32], volume: &mut [u8], first: u64, count: u64, value: u8)
-    requires { ⌜ bytes (now words) ≤ maxLength ⌝ }
-    requires { ⌜ bytes (now words) ≤ length (now volume) ⌝ }
-    requires { ⌜ (0 < count) × (first + count ≤ blocks (now words)) ⌝ }
-    ensures { λ _. ⌜ now (volume .exit)
-        ≡ edit (λ i old. cond (leb first (blockAt (now (words .entry)) i) && ltb (blockAt (now (words .entry)) i) (first + count)) value old) 0 (now (volume .entry)) ⌝ }
-{
-    let found = find_block(words, first);
-    let Place::At {
-        entry,
-        start,
-        len: _,
-        left,
-    } = found
-    else {
-        return;
-    };
-    let end = run_end(words, entry, start, left, count as usize);
-    fill(&mut volume[start..end], value);
-}
-
 // Makes each byte of the part the value.
-fn fill(part: &mut [u8], value: u8)
+pub(crate) fn fill(part: &mut [u8], value: u8)
     ensures { λ _. ⌜ now (part .exit) ≡ edit (λ i old. value) 0 (now (part .entry)) ⌝ }
 {
     let mut i = 0;

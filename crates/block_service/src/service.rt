@@ -1,20 +1,24 @@
-// The block service: the eight calls over a state and the volume bytes that the caller lends. An erase takes its list as words
-// or as bytes.
+// The block service: the ten calls over a state and the volume bytes that the caller lends. An erase, an acceptance and a carrying on
+// take their list as words or as bytes.
 //
 // Every call answers every state and every argument. The answer, the state afterwards, and the whole
 // contents of the volume and of the reader's buffer afterwards are those of `step` in specs/Service. A call
 // costs a test of the state (passes over at most 32 map entries), a scan of the map for each block or erase
-// pair that it names, and the bytes that it moves. Each call copies the state's map once and lends the copy on.
+// pair that it names, and the bytes that it moves. Each call copies the state's map and lends the copy on.
+ghost use mathlib.Core.Bool.{true, _||_};
 ghost use mathlib.Core.List.{List, []};
-ghost use mathlib.Core.Option.{some};
 ghost use mathlib.Core.Path.{_≡_};
-ghost use Prim.Native.Nat.{ℕ};
-ghost use Rattle.common.specs.Refusals.{firstRefusal, unlessRefused};
+ghost use Prim.Native.Nat.{ℕ, _≤_};
+ghost use lib.Dec.{eqb, ltb};
+ghost use lib.ListN.{length};
+ghost use Rattle.common.specs.Refusals.{firstRefusal};
+ghost use Rattle.volume.specs.BlockMap.{blocks, bytes, maxLength, maxBlocks};
 ghost use Rattle.volume.specs.State.{stateWith};
-ghost use Rattle.block_service.specs.Erase.{listWords, wholeList};
+ghost use Rattle.block_service.specs.Carry.{refusedWith, Progressed};
+ghost use Rattle.block_service.specs.Erase.{goodList, listWords, wholeList};
 ghost use Rattle.block_service.specs.Service.{step, result, settingsAnswer, addressAnswer, blockSizeAnswer, movedAnswer, erasedAnswer, protectionAnswer};
 ghost use Rattle.block_service.specs.Service.{getAttributes, setAttributes, getPhysicalAddress, getBlockSize, eraseBlocks, protectBlocks};
-ghost use Rattle.block_service.specs.Service.{lentRefusals, reachOf, refusalOf, moveAnswer};
+ghost use Rattle.block_service.specs.Service.{lentRefusals, reachOf, refusalOf, moveAnswer, acceptErase, carryErase, acceptedAnswer, progressAnswer};
 ghost use Rattle.block_service.specs.Service as Calls;
 use crate::access::count_moved;
 use crate::access::load;
@@ -22,8 +26,8 @@ use crate::access::store;
 use crate::blocks::Place;
 use crate::blocks::equal_blocks;
 use crate::blocks::locate;
+use crate::carry::carry_list;
 use crate::check::Check;
-use crate::erase::erase_list;
 use crate::erase::erased_byte;
 use crate::erase::list_refusal;
 use settings::changes_fixed;
@@ -71,6 +75,19 @@ pub enum Moved {
 // Whether the blocks of a list were erased.
 pub enum Erased {
     Success,
+    Refused(u16),
+}
+
+// What accepting an erase list answers: a job.
+pub enum Accepted {
+    Job(u64),
+    Refused(u16),
+}
+
+// What carrying a job on answers: nothing is left, or the job as it now stands.
+pub enum Progress {
+    Finished,
+    Job(u64),
     Refused(u16),
 }
 
@@ -270,7 +287,8 @@ pub fn write(st: State, volume: &mut [u8], block: u64, offset: usize, new: &[u8]
 
 // Erases the blocks that a list names: pairs of first block and count, ended by END_OF_LIST. Refused with 111, 5, 15
 // (writes are disabled), 2 (a bad list) or 15 (a block of the list is protected). The whole list is verified before a byte
-// is stored, so that a refusal changes none. Costs the list and, for each pair, a map scan and the bytes of its blocks.
+// is stored, so that a refusal changes none. Costs two passes over the list, a map scan for each run of blocks not named before, and their
+// bytes; from the first pair on that starts before the end of an earlier one, also a mark for each block named, 8 KiB in all.
 pub fn erase_blocks(st: State, volume: &mut [u8], list: &[u64]) -> Erased
     ensures { λ r. ⌜ result (erasedAnswer r) st (now (volume .exit)) [] ≡ step st (now (volume .entry)) (eraseBlocks (now (list .entry))) ⌝ }
 {
@@ -284,6 +302,44 @@ pub fn erase_byte_list(st: State, volume: &mut [u8], list: &[u8]) -> Erased
 {
     let none = [0u64; 0];
     erase(st, volume, &none, list)
+}
+
+// Accepts an erase list: answers the job, which is a place in the order of its bytes, and stores nothing. Blocks go as the list first
+// names them, bytes upward, each once. Refused as the erase is: with 111, 5, 15 (writes are disabled), 2 (a bad list) or 15 (a block of
+// the list is protected). The job is 0 for every list that is accepted. Costs one pass over the list.
+pub fn accept_erase(st: State, volume: &[u8], list: &[u64]) -> Accepted
+    ensures { λ r. ⌜ result (acceptedAnswer r) st (now (volume .entry)) [] ≡ step st (now (volume .entry)) (acceptErase (now (list .entry))) ⌝ }
+{
+    let none = [0u8; 0];
+    accept(st, volume, list, &none)
+}
+
+// The same with a list that comes as bytes, eight to a word, the lowest first; a part word at the end is ignored.
+pub fn accept_byte_list(st: State, volume: &[u8], list: &[u8]) -> Accepted
+    ensures { λ r. ⌜ result (acceptedAnswer r) st (now (volume .entry)) [] ≡ step st (now (volume .entry)) (acceptErase (listWords (now (list .entry)))) ⌝ }
+{
+    let none = [0u64; 0];
+    accept(st, volume, &none, list)
+}
+
+// Carries a job of a list on by so many byte stores, or by what is left if fewer: the next bytes of the order get the erase value, and no
+// other byte changes. Answers finished where nothing is left then, otherwise the job as it now stands, which is what the next call
+// takes. Refused with 111, 5, 15 (writes are disabled), 2 (a bad list, or a job that this map and list never give) or 15 (a block of the
+// list is protected), and then no byte changes. Costs three passes over the list, in the last two a map scan for each run of blocks not named
+// before, and the bytes that it stores; the marks are those of the erase.
+pub fn carry_erase(st: State, volume: &mut [u8], list: &[u64], job: u64, stores: u64) -> Progress
+    ensures { λ r. ⌜ result (progressAnswer r) st (now (volume .exit)) [] ≡ step st (now (volume .entry)) (carryErase (now (list .entry)) job stores) ⌝ }
+{
+    let none = [0u8; 0];
+    carry(st, volume, list, &none, job, stores)
+}
+
+// The same with a list that comes as bytes.
+pub fn carry_byte_list(st: State, volume: &mut [u8], list: &[u8], job: u64, stores: u64) -> Progress
+    ensures { λ r. ⌜ result (progressAnswer r) st (now (volume .exit)) [] ≡ step st (now (volume .entry)) (carryErase (listWords (now (list .entry))) job stores) ⌝ }
+{
+    let none = [0u64; 0];
+    carry(st, volume, &none, list, job, stores)
 }
 
 // Protects the blocks from the first on: no call with the state that is answered, or with one that later calls make of it,
@@ -322,8 +378,8 @@ pub fn protect_blocks(st: State, first: u64) -> NewProtection
     }
 }
 
-// An erase with a list of which the first words come as words and those after them as bytes. The list's refusals come after
-// those of the state, the lent volume and the settings.
+// An erase with a list of which the first words come as words and those after them as bytes: accepted, and then carried on to the end. The list is read only where
+// 111, 5 and 15 do not refuse.
 fn erase(st: State, volume: &mut [u8], list: &[u64], tail: &[u8]) -> Erased
     ensures { λ r. ⌜ result (erasedAnswer r) st (now (volume .exit)) []
         ≡ step st (now (volume .entry)) (eraseBlocks (wholeList (now (list .entry)) (now (tail .entry)))) ⌝ }
@@ -349,8 +405,131 @@ fn erase(st: State, volume: &mut [u8], list: &[u64], tail: &[u8]) -> Erased
         return Erased::Refused(number);
     }
     let end = 2 * st.entries;
-    erase_list(&map[..end], volume, list, tail, erased_byte(st.attributes));
+    let all = volume.len();
+    carry_list(
+        &map[..end],
+        volume,
+        list,
+        tail,
+        erased_byte(st.attributes),
+        0,
+        all,
+    );
     Erased::Success
+}
+
+// An acceptance of such a list.
+fn accept(st: State, volume: &[u8], list: &[u64], tail: &[u8]) -> Accepted
+    ensures { λ r. ⌜ result (acceptedAnswer r) st (now (volume .entry)) []
+        ≡ step st (now (volume .entry)) (acceptErase (wholeList (now (list .entry)) (now (tail .entry)))) ⌝ }
+{
+    let map = st.map;
+    let lent = lent_refusal(
+        st.length,
+        st.attributes,
+        st.base,
+        st.edition,
+        st.protected,
+        st.entries,
+        &map,
+        volume.len() as u64,
+        WRITE_STATUS,
+    );
+    if let Check::Refused(number) = lent {
+        return Accepted::Refused(number);
+    }
+    let total = block_count(st.entries, &map);
+    let listed = list_refusal(total, st.protected, list, tail);
+    if let Check::Refused(number) = listed {
+        return Accepted::Refused(number);
+    }
+    Accepted::Job(0)
+}
+
+// A carrying on with such a list.
+fn carry(st: State, volume: &mut [u8], list: &[u64], tail: &[u8], job: u64, stores: u64) -> Progress
+    ensures { λ r. ⌜ result (progressAnswer r) st (now (volume .exit)) []
+        ≡ step st (now (volume .entry)) (carryErase (wholeList (now (list .entry)) (now (tail .entry))) job stores) ⌝ }
+{
+    let map = st.map;
+    let lent = lent_refusal(
+        st.length,
+        st.attributes,
+        st.base,
+        st.edition,
+        st.protected,
+        st.entries,
+        &map,
+        volume.len() as u64,
+        WRITE_STATUS,
+    );
+    if let Check::Refused(number) = lent {
+        return Progress::Refused(number);
+    }
+    let total = block_count(st.entries, &map);
+    let listed = list_refusal(total, st.protected, list, tail);
+    if refused_with(listed, 2) {
+        return Progress::Refused(2);
+    }
+    let reached = refused_with(listed, 15);
+    let value = erased_byte(st.attributes);
+    let end = 2 * st.entries;
+    carry_good(&map[..end], volume, list, tail, value, reached, job, stores)
+}
+
+// Whether a call is refused with this number.
+fn refused_with(check: Check, number: u16) -> bool
+    ensures { λ r. ⌜ r ≡ refusedWith number (refusalOf check) ⌝ }
+{
+    if let Check::Refused(n) = check {
+        return n == number;
+    }
+    false
+}
+
+// Carries a job of a good list on, which reaches a protected block or not: counts the bytes of the order, judges the job, and stores.
+fn carry_good(
+    words: &[u32],
+    volume: &mut [u8],
+    list: &[u64],
+    tail: &[u8],
+    value: u8,
+    reached: bool,
+    job: u64,
+    stores: u64,
+) -> Progress
+    requires { ⌜ (bytes (now words) ≤ maxLength) × (blocks (now words) ≤ maxBlocks) ⌝ }
+    requires { ⌜ bytes (now words) ≤ length (now volume) ⌝ }
+    requires { ⌜ goodList (blocks (now words)) (wholeList (now list) (now tail)) ≡ true ⌝ }
+    ensures { λ r. ⌜ Progressed (now (words .entry)) (wholeList (now (list .entry)) (now (tail .entry))) value reached job stores (now (volume .entry)) r (now (volume .exit)) ⌝ }
+{
+    let all = carry_list(words, volume, list, tail, value, 0, 0);
+    let from = job as usize;
+    if !job_given(all, from) {
+        return Progress::Refused(2);
+    }
+    if reached {
+        return Progress::Refused(15);
+    }
+    let left = all - from;
+    let most = stores as usize;
+    if left <= most {
+        carry_list(words, volume, list, tail, value, from, all);
+        return Progress::Finished;
+    }
+    let to = from + most;
+    carry_list(words, volume, list, tail, value, from, to);
+    Progress::Job(to as u64)
+}
+
+// Whether a list whose order has so many bytes gives this job.
+fn job_given(all: usize, job: usize) -> bool
+    ensures { λ r. ⌜ r ≡ (eqb job 0 || ltb job all) ⌝ }
+{
+    if job == 0 {
+        return true;
+    }
+    job < all
 }
 
 // Reads are free: no block is kept from them.

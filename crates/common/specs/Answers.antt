@@ -4,7 +4,7 @@ use Prim.Native.Nat.{ℕ}
 use mathlib.Core.List.{List, []}
 use mathlib.Core.Option.{Option, none, some}
 
--- a refusal with its number, success with the values answered, or short (document 01's answer 4) with the count
+-- a refusal with its number, success with the values answered, or short (document 01's answer 4) with the count or, of an erase in two operations, the job
 pub data Answer : Type 0 where
   refused : ℕ → Answer
   success : List ℕ → Answer

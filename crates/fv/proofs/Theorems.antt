@@ -1,4 +1,4 @@
--- What a reader of document 02's request m may want to know of the calls from C, beyond the contracts of src/: each theorem with 02's words. The laws stand
+-- What a reader of document 02's requests m and g may want to know of the calls from C, beyond the contracts of src/: each theorem with 02's words. The laws stand
 -- under the module of src/ that they serve.
 use Prim.Native.Nat.{ℕ, _+_, _≤_, _<_, _^_}
 use mathlib.Core.Path.{_≡_, refl, sym, ap, _∙_}
@@ -16,7 +16,7 @@ use Rattle.volume.specs.Header.{openVolume}
 use Rattle.volume.specs.State.{unlawful}
 use Rattle.volume.specs.declared.state.State.{State}
 use Rattle.volume.proofs.Theorems.{opened-lawful}
-use Rattle.block_service.specs.Service.{Result, bufferOf, eraseBlocks, read, step, write}
+use Rattle.block_service.specs.Service.{Result, acceptErase, bufferOf, carryErase, eraseBlocks, read, step, write}
 use Rattle.block_service.specs.Erase.{listWords}
 use Rattle.block_service.proofs.Theorems.{order-111, refused-changes-nothing}
 use Rattle.sections.specs.Append.{appendOf}
@@ -27,9 +27,11 @@ use Rattle.fv.specs.Answer.{answerBytes, answerStored, entryWords}
 use Rattle.fv.specs.Called.{IsRefusal, called}
 use Rattle.fv.specs.Packed.{packed, unpacked, stateBytes, Typed}
 use Rattle.fv.specs.VolumeCalls.{entryCall, eraseCall, openCall, readCall, writeCall, stateAfter}
+use Rattle.fv.specs.JobCalls.{acceptCall, carryCall, jobBytes, jobIn, jobStored}
 use Rattle.fv.specs.SectionCalls.{appendCall, foundCall, modeOf}
 use Rattle.fv.proofs.answer.Answers.{enough}
 use Rattle.fv.proofs.answer.Numbers as Numbers
+use Rattle.fv.proofs.job_calls.Calls as Jobs
 use Rattle.fv.proofs.packed.Opened as Opened
 use Rattle.fv.proofs.packed.Packing as Packing
 use Rattle.fv.proofs.packed.RoundTrip as RoundTrip
@@ -93,6 +95,36 @@ module _ (state v : List ℕ) (base : ℕ) (long : stateBytes ≤ length state) 
         eraseCall stored w list ≡ called (numberOf (r .answer)) (r .volume ∷ [])
     unfolding eraseCall
     opened-erase w list = rw (enough (length stored) stateBytes [] none opened-long no-row, opened-back)
+
+    pub opened-accept : (w list job : List ℕ) → jobBytes ≤ length job → let r = step (openVolume v base .state) w (acceptErase (listWords list)) in
+        acceptCall stored w list job ≡ called (numberOf (r .answer)) (jobStored (valuesOf (r .answer)) job ∷ [])
+    unfolding acceptCall
+    opened-accept w list job room = rw (enough (length stored) stateBytes _ none opened-long (enough (length job) jobBytes [] none room no-row), opened-back)
+
+    pub opened-carry : (w list job : List ℕ) (stores : ℕ) → jobBytes ≤ length job → let r = step (openVolume v base .state) w (carryErase (listWords list) (jobIn job) stores) in
+        carryCall stored w list job stores ≡ called (numberOf (r .answer)) (r .volume ∷ jobStored (valuesOf (r .answer)) job ∷ [])
+    unfolding carryCall
+    opened-carry w list job stores room = rw (enough (length stored) stateBytes _ none opened-long (enough (length job) jobBytes [] none room no-row), opened-back)
+
+-- ---- the erase in two operations (02, g)
+
+-- a job that was stored is the one that the next call reads, also from the same bytes after a reboot
+pub job-back : (x : ℕ) (job : List ℕ) → x < 2 ^ 64 → jobIn (jobStored (x ∷ []) job) ≡ x
+unfolding jobStored
+job-back x job h = le-leBytes 8 x (drop jobBytes job) h
+
+-- "The old erase becomes accepting, then carrying on to the end": where fv_erase succeeds, fv_accept_erase stores the job 0, and fv_carry_erase from it, by as many stores
+-- as the volume has bytes or more, returns 0 and leaves the volume that fv_erase leaves
+pub two-calls : (state v list job : List ℕ) (stores : ℕ) → stateBytes ≤ length state → jobBytes ≤ length job → length v ≤ stores
+    → step (unpacked state) v (eraseBlocks (listWords list)) .answer ≡ success []
+    → let kept = leBytes jobBytes 0 ++ drop jobBytes job in
+    (acceptCall state v list job ≡ called 0 (kept ∷ [])) × (carryCall state v list kept stores ≡ called 0 (step (unpacked state) v (eraseBlocks (listWords list)) .volume ∷ kept ∷ []))
+two-calls = Jobs.two-calls
+
+-- where fv_erase is refused, so is fv_accept_erase, with the same number, and neither changes a byte
+pub two-refused : (state v list job : List ℕ) → stateBytes ≤ length state → jobBytes ≤ length job → (n : ℕ)
+    → step (unpacked state) v (eraseBlocks (listWords list)) .answer ≡ refused n → (eraseCall state v list ≡ called n (v ∷ [])) × (acceptCall state v list job ≡ called n (job ∷ []))
+two-refused = Jobs.two-refused
 
 -- ---- the order of the refusals, and what they leave: every range
 
@@ -160,6 +192,45 @@ module _ (state v list : List ℕ) where
     pub erase-111 : unlawful (unpacked state) ≡ true → eraseCall state v list ≡ called 111 (v ∷ [])
     erase-111 e = erase-refused 111 (ap (λ (r : Result). r .answer) (order-111 (unpacked state) v (eraseBlocks (listWords list)) e))
 
+module _ (state v list job : List ℕ) where
+  -- of an acceptance
+  pub accept-few-state : length state < stateBytes → acceptCall state v list job ≡ called 5 (job ∷ [])
+  accept-few-state h = sym (Jobs.accept-few-state state v list job h)
+
+  module _ (long : stateBytes ≤ length state) where
+    pub accept-few-job : length job < jobBytes → acceptCall state v list job ≡ called 5 (job ∷ [])
+    accept-few-job h = sym (Jobs.accept-few-job state v list job long h)
+
+    module _ (room : jobBytes ≤ length job) where
+      pub accept-refused : (n : ℕ) → step (unpacked state) v (acceptErase (listWords list)) .answer ≡ refused n → acceptCall state v list job ≡ called n (job ∷ [])
+      unfolding acceptCall numberOf valuesOf jobStored
+      accept-refused n e = rw (enough (length state) stateBytes _ none long (enough (length job) jobBytes [] none room no-row), e)
+
+      pub accept-111 : unlawful (unpacked state) ≡ true → acceptCall state v list job ≡ called 111 (job ∷ [])
+      accept-111 e = accept-refused 111 (ap (λ (r : Result). r .answer) (order-111 (unpacked state) v (acceptErase (listWords list)) e))
+
+module _ (state v list job : List ℕ) (stores : ℕ) where
+  -- and of a carrying on
+  pub carry-few-state : length state < stateBytes → carryCall state v list job stores ≡ called 5 (v ∷ job ∷ [])
+  carry-few-state h = sym (Jobs.carry-few-state state v list job stores h)
+
+  module _ (long : stateBytes ≤ length state) where
+    pub carry-few-job : length job < jobBytes → carryCall state v list job stores ≡ called 5 (v ∷ job ∷ [])
+    carry-few-job h = sym (Jobs.carry-few-job state v list job stores long h)
+
+    module _ (room : jobBytes ≤ length job) where
+      pub carry-refused : (n : ℕ) → step (unpacked state) v (carryErase (listWords list) (jobIn job) stores) .answer ≡ refused n
+          → carryCall state v list job stores ≡ called n (v ∷ job ∷ [])
+      unfolding carryCall bufferOf numberOf valuesOf jobStored
+      carry-refused n e =
+          rw (
+            enough (length state) stateBytes _ none long (enough (length job) jobBytes [] none room no-row),
+            refused-changes-nothing (unpacked state) v (carryErase (listWords list) (jobIn job) stores) n e,
+          )
+
+      pub carry-111 : unlawful (unpacked state) ≡ true → carryCall state v list job stores ≡ called 111 (v ∷ job ∷ [])
+      carry-111 e = carry-refused 111 (ap (λ (r : Result). r .answer) (order-111 (unpacked state) v (carryErase (listWords list) (jobIn job) stores) e))
+
 module _ (found : Answer) (answer : List ℕ) where
   -- of a search, and of the search for the first
   pub search-few-answer : length answer < answerBytes → foundCall found answer ≡ called 5 (answer ∷ [])
@@ -204,6 +275,12 @@ write-number = Numbers.write-number
 
 pub erase-number : (st : State) (v : List ℕ) (n : ℕ) (list : List ℕ) → step st v (eraseBlocks list) .answer ≡ refused n → IsRefusal n
 erase-number = Numbers.erase-number
+
+pub accept-number : (st : State) (v : List ℕ) (n : ℕ) (list : List ℕ) → step st v (acceptErase list) .answer ≡ refused n → IsRefusal n
+accept-number = Numbers.accept-number
+
+pub carry-number : (st : State) (v : List ℕ) (n : ℕ) (list : List ℕ) (job stores : ℕ) → step st v (carryErase list job stores) .answer ≡ refused n → IsRefusal n
+carry-number = Numbers.carry-number
 
 pub entry-number : (v : List ℕ) (number n : ℕ) → extEntry v number ≡ refused n → IsRefusal n
 entry-number = Numbers.entry-number

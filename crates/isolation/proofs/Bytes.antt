@@ -3,12 +3,12 @@
 -- Nothing here knows of blocks.
 use Prim.Native.Nat.{ℕ, _+_, _≤_, _<_}
 use mathlib.Core.Path.{_≡_, refl, sym, ap, ap₂, _∙_}
-use mathlib.Core.Bool.{Bool, true, false, not, _&&_, _||_}
+use mathlib.Core.Bool.{Bool, true, false, not, _||_}
 use mathlib.Core.List.{List, [], _∷_, _++_}
 use native.Mathlib.Nat.{zero-add}
 use native.Mathlib.Omega.{arith}
 use borrow.Author.Tests.{lt-ltb, le-leb, ltb-true, ltb-false}
-use lib.Dec.{T, leb, ltb}
+use lib.Dec.{T, ltb}
 use lib.ListN.{length, getD, take, drop, List·getD-eq-default, length-take, length-drop}
 use lib.Seq.{ext-getD, getD-take, getD-drop}
 use Rattle.common.specs.Answers.{Answer}
@@ -16,47 +16,9 @@ use Rattle.common.specs.Lists.{edit}
 use Rattle.block_service.specs.Access.{ByteChange, keep, store, erase, changedByte}
 use Rattle.block_service.specs.Service.{Call, Effect, reply, setTo, copyOut, change, decide, Result, perform, bufferOf, step}
 use Rattle.volume.specs.declared.state.State.{State}
+use Rattle.isolation.specs.Bytes.{isErase, erasesByte, copiesByte, erasedInRun, Agree, Without, Unread, IsolatedBytes}
 use Rattle.isolation.specs.Runs.{run, Seen, seen}
 use Rattle.common.proofs.Edit.{length-edit, getD-edit}
-
--- an effect erases byte i; an effect copies byte i to the reader
-unfoldable pub isErase : ByteChange → Bool
-isErase keep = false
-isErase (store x) = false
-isErase erase = true
-
-unfoldable pub erasesByte : Effect → ℕ → Bool
-erasesByte (reply a) i = false
-erasesByte (setTo next a) i = false
-erasesByte (copyOut at count a) i = false
-erasesByte (change f a) i = isErase (f i)
-
-unfoldable pub copiesByte : Effect → ℕ → Bool
-copiesByte (reply a) i = false
-copiesByte (setTo next a) i = false
-copiesByte (copyOut at count a) i = leb at i && ltb i (at + count)
-copiesByte (change f a) i = false
-
--- byte i was erased in a run
-unfoldable pub erasedInRun : State → List ℕ → List Call → ℕ → Bool
-erasedInRun st v [] i = false
-erasedInRun st v (c ∷ cs) i =
-    erasesByte (decide st (length v) c) i || erasedInRun (step st v c .state) (step st v c .volume) cs i
-
--- two volumes agree outside a set of bytes
-abbrev pub Agree : (ℕ → Type 0) → List ℕ → List ℕ → Type 0
-Agree X v w = (i : ℕ) → (X i → ⊥) → getD v i 0 ≡ getD w i 0
-
--- a set of bytes without those that an effect erases
-abbrev pub Without : (ℕ → Type 0) → Effect → ℕ → Type 0
-Without X e i = X i × T (not (erasesByte e i))
-
--- no call of a run on v copies out a byte of the set that was not erased before
-unfoldable pub Unread : (ℕ → Type 0) → State → List ℕ → List Call → Type 0
-Unread X st v [] = Unit {0}
-Unread X st v (c ∷ cs) =
-    ((i : ℕ) → T (copiesByte (decide st (length v) c) i) → X i → ⊥)
-    × Unread (Without X (decide st (length v) c)) (step st v c .state) (step st v c .volume) cs
 
 -- ---- one effect on both volumes
 
@@ -130,13 +92,6 @@ same-seen : (a b : Answer) (s t : State) (x y : List ℕ) → a ≡ b → s ≡ 
     → _≡_ {A = Seen} (record { answer = a; state = s; buffer = x }) (record { answer = b; state = t; buffer = y })
 same-seen a b s t x y p q r = λ i. record { answer = p i; state = q i; buffer = r i }
 
--- what a run keeps equal
-pub record Same (X : ℕ → Type 0) (st : State) (v w : List ℕ) (cs : List Call) : Type 0 where
-  pub same-seen : seen st v cs ≡ seen st w cs
-  pub same-state : run st v cs .state ≡ run st w cs .state
-  pub same-length : length (run st v cs .volume) ≡ length (run st w cs .volume)
-  pub same-bytes : Agree (λ i. X i × T (not (erasedInRun st v cs i))) (run st v cs .volume) (run st w cs .volume)
-
 -- a set less what an effect erases, less what a run erases, is the set less what both erase
 not-or : (a b : Bool) → T (not a) → T (not b) → T (not (a || b))
 not-or true b p q = absurd p
@@ -169,28 +124,50 @@ module _ (X : ℕ → Type 0) (st : State) (v w : List ℕ) (c : Call) (h : leng
   call-bytes g i k =
       same-bytes st (bufferOf c) X (decide st (length v) c) v w h g i k ∙ sym (ap (λ (r : Result). getD (r .volume) i 0) other-step)
 
--- the core of demand 3
-pub same-runs : (X : ℕ → Type 0) (st : State) (v w : List ℕ) (cs : List Call) → length v ≡ length w → Agree X v w → Unread X st v cs
-    → Same X st v w cs
-unfolding run seen erasedInRun Unread
-same-runs X st v w [] h g k =
-    record { same-seen = refl; same-state = refl; same-length = h; same-bytes = λ i p. g i (λ x. p (x, tt)) }
-same-runs X st v w (c ∷ cs) h g k =
+-- at the end: whatever was read
+run-same : (X : ℕ → Type 0) (st : State) (v w : List ℕ) (cs : List Call) → length v ≡ length w → Agree X v w
+    → (run st v cs .state ≡ run st w cs .state) × (length (run st v cs .volume) ≡ length (run st w cs .volume))
+    × Agree (λ i. X i × T (not (erasedInRun st v cs i))) (run st v cs .volume) (run st w cs .volume)
+unfolding run erasedInRun
+run-same X st v w [] h g = (refl, h, λ i p. g i (λ x. p (x, tt)))
+run-same X st v w (c ∷ cs) h g =
     let e : Effect = decide st (length v) c in
     let v' : List ℕ = step st v c .volume in
     let w' : List ℕ = step st w c .volume in
     let s = call-state X st v w c h in
-    let r = same-runs (Without X e) (step st v c .state) v' w' cs (call-length X st v w c h) (call-bytes X st v w c h g) (k .1) in
-    record {
-      same-seen =
-          ap₂ (λ (a : Seen) (l : List Seen). a ∷ l)
-          (same-seen (step st v c .answer) (step st w c .answer) (step st v c .state) (step st w c .state) (step st v c .buffer) (step st w c .buffer)
-          (call-answer X st v w c h) s (call-buffer X st v w c h g (k .0)))
-          (r .same-seen ∙ ap (λ (t : State). seen t w' cs) s);
-      same-state = r .same-state ∙ ap (λ (t : State). run t w' cs .state) s;
-      same-length = r .same-length ∙ ap (λ (t : State). length (run t w' cs .volume)) s;
-      same-bytes =
-          λ i p.
-          r .same-bytes i (λ x. p (x .0 .0, not-or (erasesByte e i) (erasedInRun (step st v c .state) v' cs i) (x .0 .1) (x .1)))
-          ∙ ap (λ (t : State). getD (run t w' cs .volume) i 0) s;
-    }
+    let r = run-same (Without X e) (step st v c .state) v' w' cs (call-length X st v w c h) (call-bytes X st v w c h g) in (
+      r .0 ∙ ap (λ (t : State). run t w' cs .state) s,
+      r .1 ∙ ap (λ (t : State). length (run t w' cs .volume)) s,
+      λ i p.
+          r .2 i (λ x. p (x .0 .0, not-or (erasesByte e i) (erasedInRun (step st v c .state) v' cs i) (x .0 .1) (x .1)))
+          ∙ ap (λ (t : State). getD (run t w' cs .volume) i 0) s,
+    )
+
+-- a byte that was erased
+pub erased-agrees : (st : State) (v w : List ℕ) (cs : List Call) → length v ≡ length w → (i : ℕ) → T (erasedInRun st v cs i)
+    → getD (run st v cs .volume) i 0 ≡ getD (run st w cs .volume) i 0
+erased-agrees st v w cs h i t = run-same (λ j. Unit {0}) st v w cs h (λ j p. absurd (p tt)) .2 i (λ x. both (erasedInRun st v cs i) t (x .1))
+  where
+    both : (b : Bool) → T b → T (not b) → ⊥
+    both true p q = q
+    both false p q = p
+
+-- what is seen, where no byte of the set is read before it was erased
+seen-same : (X : ℕ → Type 0) (st : State) (v w : List ℕ) (cs : List Call) → length v ≡ length w → Agree X v w → Unread X st v cs → seen st v cs ≡ seen st w cs
+unfolding seen Unread
+seen-same X st v w [] h g k = refl
+seen-same X st v w (c ∷ cs) h g k =
+    let w' : List ℕ = step st w c .volume in
+    let s = call-state X st v w c h in
+    ap₂ (λ (a : Seen) (l : List Seen). a ∷ l)
+    (same-seen (step st v c .answer) (step st w c .answer) (step st v c .state) (step st w c .state) (step st v c .buffer) (step st w c .buffer)
+    (call-answer X st v w c h) s (call-buffer X st v w c h g (k .0)))
+    (seen-same (Without X (decide st (length v) c)) (step st v c .state) (step st v c .volume) w' cs (call-length X st v w c h) (call-bytes X st v w c h g) (k .1)
+    ∙ ap (λ (t : State). seen t w' cs) s)
+
+-- the core of demand 3
+pub isolated-bytes : (X : ℕ → Type 0) (st : State) (v w : List ℕ) (cs : List Call) → length v ≡ length w → Agree X v w → Unread X st v cs
+    → IsolatedBytes X st v w cs
+isolated-bytes X st v w cs h g k =
+    let r = run-same X st v w cs h g in
+    record { all-seen = seen-same X st v w cs h g k; end-state = r .0; end-length = r .1; end-bytes = r .2 }

@@ -13,7 +13,7 @@ use Rattle.block_service.specs.Service.{Call, protectBlocks, effect, withProtec
 use Rattle.block_service.proofs.service.Kept.{map-kept, protected-falls, protected-kept}
 use Rattle.block_service.proofs.service.Steps.{allowed-step, passed-success}
 use Rattle.isolation.specs.Runs.{run}
-use Rattle.isolation.proofs.Isolation.{run-append}
+use Rattle.isolation.proofs.Isolation.{run-map, run-append}
 
 -- no run raises the first protected block
 falls : (st : State) (v : List ℕ) (cs : List Call) → run st v cs .state .protected ≤ st .protected
@@ -28,12 +28,6 @@ stays st v [] b i h k = refl
 stays st v (c ∷ cs) b i h k =
     stays (step st v c .state) (step st v c .volume) cs b i (omega (arith, protected-falls st v c)) (rw (map-kept st v c) k) ∙ protected-kept st v c b i h k
 
--- the map is the same after every run
-same-map : (st : State) (v : List ℕ) (cs : List Call) → mapOf (run st v cs .state) ≡ mapOf st
-unfolding run
-same-map st v [] = refl
-same-map st v (c ∷ cs) = same-map (step st v c .state) (step st v c .volume) cs ∙ map-kept st v c
-
 protect-map : (st : State) (first : ℕ) → mapOf (withProtected st first) ≡ mapOf st
 unfolding withProtected stateWith mapOf
 protect-map st first = refl
@@ -45,7 +39,7 @@ protected-falls-run st v before after = rw (run-append st v before after) (falls
 pub protected-run : (st : State) (v : List ℕ) (before after : List Call) (b i : ℕ) → run st v before .state .protected ≤ b → T (inBlock (mapOf st) b i)
     → getD (run st v (before ++ after) .volume) i 0 ≡ getD (run st v before .volume) i 0
 protected-run st v before after b i h k =
-    rw (run-append st v before after) (stays (run st v before .state) (run st v before .volume) after b i h (rw (same-map st v before) k))
+    rw (run-append st v before after) (stays (run st v before .state) (run st v before .volume) after b i h (rw (run-map st v before) k))
 
 -- and so from a call on that protected blocks
 pub protect-run : (st : State) (v : List ℕ) (before after : List Call) (first : ℕ)
@@ -58,4 +52,4 @@ protect-run st v before after first done b i h k =
     let w : List ℕ = run st v before .volume in
     let did = allowed-step s w (protectBlocks first) (passed-success s w (protectBlocks first) [] done) in
     rw (run-append st v before (protectBlocks first ∷ after))
-    (ap (λ (r : Result). getD (run (r .state) (r .volume) after .volume) i 0) (sym did) ∙ stays (withProtected s first) w after b i h (rw (protect-map s first, same-map st v before) k))
+    (ap (λ (r : Result). getD (run (r .state) (r .volume) after .volume) i 0) (sym did) ∙ stays (withProtected s first) w after b i h (rw (protect-map s first, run-map st v before) k))

@@ -24,7 +24,7 @@ use Rattle.settings.specs.Settings.{statusBits, changesFixed, raises, clears, b
 use Rattle.volume.specs.ExtendedHeader.{extOffset, extFault}
 use Rattle.volume.specs.State.{mapOf, stateOf, stateWith, unlawful}
 use Rattle.volume.specs.declared.state.State.{State}
-use Rattle.isolation.specs.Runs.{run, isSuccess, isMoved, namesBlock, erased, Alike, NoEarlyRead, Isolated}
+use Rattle.isolation.specs.Runs.{run, isSuccess, isMoved, namesBlock, touched, jobErases, erasedBy, erased, Alike, NoEarlyReadBy, NoEarlyRead, Isolated}
 use Rattle.table.specs.SampleA.{headerA, sampleA}
 use Rattle.isolation.proofs.Isolation.{demand-3}
 
@@ -36,7 +36,7 @@ ReadsAllowed D st v (c ∷ cs) =
     × ReadsAllowed (λ b. D b × T (not (namesBlock c b && isSuccess (step st v c .answer)))) (step st v c .state) (step st v c .volume) cs
 
 pub allowed : (D : ℕ → Type 0) (st : State) (v : List ℕ) (cs : List Call) → ReadsAllowed D st v cs → NoEarlyRead D st v cs
-unfolding ReadsAllowed NoEarlyRead run erased
+unfolding ReadsAllowed NoEarlyReadBy run erasedBy
 allowed D st v [] k [] after b o buffer e d m = absurd (let z : _≡_ {A = ℕ} 0 1 = cc in omega arith)
 allowed D st v [] k (x ∷ before) after b o buffer e d m = absurd (let z : _≡_ {A = ℕ} 0 1 = cc in omega arith)
 allowed D st v (c ∷ cs) k [] after b o buffer e d m = absurd (let p : c ≡ read b o buffer = cc in k .0 b o buffer p d m)
@@ -48,15 +48,17 @@ allowed D st v (c ∷ cs) k (x ∷ before) after b o buffer e d m =
     T (isMoved (step (run st v (y ∷ before) .state) (run st v (y ∷ before) .volume) (read b o buffer) .answer)) → T (erased st v (y ∷ before) b))
     p
     (λ m'.
-    unless-first (namesBlock c b && isSuccess (step st v c .answer)) (erased (step st v c .state) (step st v c .volume) before b)
+    unless-first (namesBlock c b && isSuccess (step st v c .answer)) (jobErases touched c (step st v c .answer) (step st v c .state) (step st v c .volume) before b)
+    (erased (step st v c .state) (step st v c .volume) before b)
     (λ n.
     allowed (λ a. D a × T (not (namesBlock c a && isSuccess (step st v c .answer)))) (step st v c .state) (step st v c .volume) cs (k .1)
     before after b o buffer q (d, n) m'))
     m
   where
-    unless-first : (a r : Bool) → (T (not a) → T r) → T (a || r)
-    unless-first true r f = tt
-    unless-first false r f = f tt
+    unless-first : (a j r : Bool) → (T (not a) → T r) → T (a || (j || r))
+    unless-first true j r f = tt
+    unless-first false true r f = tt
+    unless-first false false r f = f tt
 
 -- everything that the two runs compute with: opening, the calls, and runs
 opening : Unit {0}
@@ -72,7 +74,7 @@ unfolding place placeFrom startOf lengthOf holds inBlock blockAt countMoved writ
 moving = tt
 
 calling : Unit {0}
-unfolding refusals lentRefusals moveAnswer effect decide withAttributes perform bufferOf step isSuccess isMoved namesBlock erased run
+unfolding refusals lentRefusals moveAnswer effect decide withAttributes perform bufferOf step isSuccess isMoved namesBlock run
 calling = tt
 
 computed : Unit {0}

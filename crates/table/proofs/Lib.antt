@@ -1,5 +1,6 @@
 pub mod Editions
 pub mod Instances
+pub mod Jobs
 pub mod Portions
 pub mod Protected
 pub mod SecondEdition

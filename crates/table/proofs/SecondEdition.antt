@@ -17,7 +17,7 @@ use Rattle.block_service.specs.Erase.{endOfList, goodList, names, reaches, eras
 use Rattle.block_service.specs.Service.{lentRefusals, moveAnswer, Call, setAttributes, read, eraseBlocks, step}
 use Rattle.volume.specs.Header.{opened, openVolume}
 use Rattle.volume.specs.State.{mapOf}
-use Rattle.isolation.specs.Runs.{run, isSuccess, isMoved, namesBlock, erased, Alike, NoEarlyRead, Isolated}
+use Rattle.isolation.specs.Runs.{run, isSuccess, isMoved, namesBlock, Alike, NoEarlyRead, Isolated}
 use Rattle.isolation.proofs.Isolation.{demand-3}
 use Rattle.table.specs.SamplePI.{headerPI, extendedPI, samplePI}
 use Rattle.table.proofs.Editions.{statePI, computing, extending, setting}
@@ -29,7 +29,7 @@ unfolding place placeFrom startOf lengthOf holds inBlock blockAt countMoved writ
 moving = tt
 
 running : Unit {0}
-unfolding headerPI extendedPI samplePI statePI computing extending setting moving lentRefusals moveAnswer isSuccess isMoved namesBlock erased
+unfolding headerPI extendedPI samplePI statePI computing extending setting moving lentRefusals moveAnswer isSuccess isMoved namesBlock
 running = tt
 
 -- the sample with byte 200, of block 1, changed

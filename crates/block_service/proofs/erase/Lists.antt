@@ -1,20 +1,15 @@
--- Laws of erase lists: a list from place i on, as a walk over its pairs meets it; and the erase of a run of blocks and of a whole list.
+-- Laws of erase lists: a list from place i on, as a walk over its pairs meets it; the blocks from a block on; and that a good list names blocks that are there.
 use Prim.Native.Nat.{ℕ, suc, _+_, _-_, _≤_, _<_}
 use mathlib.Core.Path.{_≡_, refl, sym, _∙_}
-use mathlib.Core.Bool.{Bool, true, false, not, cond, _&&_, _||_, and-assoc, or-true, true≢false}
-use mathlib.Core.List.{List, [], _∷_, _++_}
+use mathlib.Core.Bool.{Bool, true, false, not, _&&_, _||_, and-assoc, or-true, true≢false}
+use mathlib.Core.List.{List, [], _∷_}
 use native.Mathlib.Omega.{arith}
 use borrow.Author.Tests.{le-leb, lt-leb, lt-ltb, le-ltb, ne-eqb, leb-true, leb-false, ltb-true, ltb-false, eqb-false}
 use lib.Dec.{T, leb, ltb, eqb}
-use lib.ListN.{length, getD, take, drop, length-drop, drop-of-length-le}
+use lib.ListN.{length, getD, drop, length-drop, drop-of-length-le}
 use lib.Seq.{drop-cons}
-use Rattle.common.specs.Lists.{edit}
 use Rattle.common.proofs.Lists.{drop-two}
-use Rattle.volume.specs.BlockMap.{blocks}
-use Rattle.block_service.specs.Blocks.{blockAt, firstByte}
 use Rattle.block_service.specs.Erase.{endOfList, goodList, names, reaches}
-use Rattle.common.proofs.Edit.{within, edit-part, edit-same, edit-keep, edit-edit}
-use Rattle.block_service.proofs.blocks.Places.{before-same, not-before-same}
 
 -- a pair of first block f and count c fits n blocks: tested without the sum of the two
 pub fits-within : (n f c : ℕ) → 0 < c → f < n → leb c (n - f) ≡ (not (eqb c 0) && leb (f + c) n)
@@ -45,14 +40,6 @@ module _ (w : List ℕ) (i : ℕ) (h : i < length w) (e : getD w i 0 ≡ endOfLi
   ends-good n = rw (drop-cons w i 0 h, e) (go (drop (suc i) w))
     where
       go : (r : List ℕ) → true ≡ goodList n (endOfList ∷ r)
-      go [] = refl
-      go (c ∷ r) = refl
-
-  ends-names : (b : ℕ) → names (drop i w) b ≡ false
-  unfolding names
-  ends-names b = rw (drop-cons w i 0 h, e) (go (drop (suc i) w))
-    where
-      go : (r : List ℕ) → names (endOfList ∷ r) b ≡ false
       go [] = refl
       go (c ∷ r) = refl
 
@@ -131,11 +118,6 @@ module _ (w : List ℕ) (i f c : ℕ) (h : i + 1 < length w) (ef : f ≡ getD w 
     pub reach-miss : f + c ≤ m → (r || reaches m (drop (i + 2) w)) ≡ whole
     reach-miss h = rw (pair-reaches m p, le-ltb m (f + c) h) at q
 
-  -- a pair names its own blocks, and the words after it name theirs
-  pair-names : (b : ℕ) → names (drop i w) b ≡ (leb f b && ltb b (f + c) || names (drop (i + 2) w) b)
-  unfolding names
-  pair-names b = rw (pair-words, ne-eqb f endOfList e)
-
 -- a good list's word that is no terminator has another after it
 pub good-even : (w : List ℕ) (i n : ℕ) → i < length w → (getD w i 0 ≡ endOfList → ⊥) → goodList n (drop i w) ≡ true → i + 1 < length w
 good-even w i n h e g = go (ltb (i + 1) (length w)) refl
@@ -146,46 +128,6 @@ good-even w i n h e g = go (ltb (i + 1) (length w)) refl
         let q : length w ≤ i + 1 = ltb-false _ _ p in
         let k = odd-list w i n h (omega arith) e in
         absurd (let z : _≡_ {A = ℕ} 0 1 = cc in omega arith)
-
--- the erase of a run of blocks, and of the blocks of a list, each to the value x
-abbrev runErased : List ℕ → ℕ → ℕ → ℕ → ℕ → ℕ → ℕ
-runErased m f c x i old = cond (leb f (blockAt m i) && ltb (blockAt m i) (f + c)) x old
-
-abbrev pub listErased : List ℕ → List ℕ → ℕ → ℕ → ℕ → ℕ
-listErased m w x i old = cond (names w (blockAt m i)) x old
-
--- a run's blocks are the bytes from its first block's first to the first of the block after it
-pub run-back : (m : List ℕ) (f c x s e : ℕ) (v part : List ℕ) → f + c ≤ blocks m → s ≡ firstByte m f → e ≡ firstByte m (f + c) → s ≤ e
-    → e ≤ length v → part ≡ edit (λ i old. x) 0 (take (e - s) (drop s v))
-    → take s v ++ (part ++ drop (e - s) (drop s v)) ≡ edit (runErased m f c x) 0 v
-run-back m f c x s e v part h ps pe o b p =
-    rw p
-    (edit-part (λ i old. x) s (e - s) v (omega arith)
-    ∙ edit-same (within s (e - s) (λ i old. x)) (runErased m f c x) 0 0 v
-    (λ i old k.
-    let z : s + (e - s) ≡ e = omega arith in
-    rw (z, not-before-same m (0 + i) f (omega arith), before-same m (0 + i) (f + c) h, ps, pe)))
-
--- the first pair's run erased, and then what the words after it name
-pub erase-next : (m w : List ℕ) (i f c x : ℕ) (v u : List ℕ) → i + 1 < length w → f ≡ getD w i 0 → c ≡ getD w (i + 1) 0 → (f ≡ endOfList → ⊥)
-    → u ≡ edit (runErased m f c x) 0 v → edit (listErased m (drop (i + 2) w) x) 0 u ≡ edit (listErased m (drop i w) x) 0 v
-erase-next m w i f c x v u h ef ec e p =
-    rw p
-    (edit-edit (listErased m (drop (i + 2) w) x) (runErased m f c x) 0 v
-    ∙ edit-same (λ j old. listErased m (drop (i + 2) w) x j (runErased m f c x j old)) (listErased m (drop i w) x) 0 0 v
-    (λ j old k.
-    rw (pair-names w i f c h ef ec e (blockAt m (0 + j)))
-    (go (leb f (blockAt m (0 + j)) && ltb (blockAt m (0 + j)) (f + c)) (names (drop (i + 2) w) (blockAt m (0 + j))) old)))
-  where
-    go : (s t : Bool) (old : ℕ) → cond t x (cond s x old) ≡ cond (s || t) x old
-    go true true old = refl
-    go true false old = refl
-    go false true old = refl
-    go false false old = refl
-
--- at the terminator nothing is left to erase
-pub erase-end : (m w : List ℕ) (i x : ℕ) (v : List ℕ) → i < length w → getD w i 0 ≡ endOfList → v ≡ edit (listErased m (drop i w) x) 0 v
-erase-end m w i x v h e = sym (edit-keep (listErased m (drop i w) x) 0 v (λ j old k. rw (ends-names w i h e (blockAt m (0 + j)))))
 
 -- ---- the blocks from block m on
 
@@ -233,3 +175,23 @@ reaches-names (f ∷ c ∷ w) m h = go (eqb f endOfList) refl (eqb c 0) refl (lt
     go false ex true ey z ez ih h = later (ih h)
     go false ex false ey true ez ih h = last (let n = eqb-false c 0 ey in omega arith) (ltb-true _ _ ez)
     go false ex false ey false ez ih h = later (ih h)
+
+-- a good list names only blocks that are there
+pub names-within : (n : ℕ) (w : List ℕ) → goodList n w ≡ true → (b : ℕ) → T (names w b) → b < n
+unfolding goodList names
+names-within n [] g b t = absurd t
+names-within n (f ∷ []) g b t = absurd t
+names-within n (f ∷ c ∷ w) g b t = go (eqb f endOfList) (eqb c 0) (leb (f + c) n) refl (leb f b) (ltb b (f + c)) refl (λ k. names-within n w k b) g t
+  where
+    go : (x y z : Bool) → leb (f + c) n ≡ z → (p q : Bool) → ltb b (f + c) ≡ q → (goodList n w ≡ true → T (names w b) → b < n)
+        → (x || (not y && (z && goodList n w))) ≡ true → T (not x && (p && q || names w b)) → b < n
+    go true y z ez p q eq ih g t = absurd t
+    go false true z ez p q eq ih g t = absurd (true≢false (sym g))
+    go false false false ez p q eq ih g t = absurd (true≢false (sym g))
+    go false false true ez true true eq ih g t =
+        let u : f + c ≤ n = leb-true _ _ ez in
+        let w : b < f + c = ltb-true _ _ eq in
+        omega arith
+    go false false true ez true false eq ih g t = ih g t
+    go false false true ez false true eq ih g t = ih g t
+    go false false true ez false false eq ih g t = ih g t

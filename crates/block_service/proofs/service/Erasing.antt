@@ -6,7 +6,7 @@ use mathlib.Core.Option.{Option, none, some}
 use mathlib.Core.Path.{_≡_, refl, sym, ap, _∙_}
 use native.Mathlib.Nat.{zero-add}
 use native.Mathlib.Omega.{arith}
-use borrow.Author.Tests.{ltb-true, leb-true, eqb-true, eqb-false, not-false}
+use borrow.Author.Tests.{eqb-true, eqb-false, not-false}
 use lib.Dec.{T, leb, ltb, eqb}
 use lib.ListN.{length, getD}
 use Rattle.common.specs.Answers.{success}
@@ -22,36 +22,16 @@ use Rattle.block_service.specs.Access.{erasedByte, keep, erase, changedB
 use Rattle.block_service.specs.Blocks.{inBlock, blockAt}
 use Rattle.block_service.specs.Erase.{endOfList, goodList, names, reaches, eraseChange}
 use Rattle.block_service.specs.Service.{write, eraseBlocks, lentRefusals, refusals, effect, Result, result, perform, bufferOf, step}
-use Rattle.block_service.proofs.erase.Lists.{names-reaches, reaches-names}
+use Rattle.block_service.proofs.erase.Lists.{names-reaches, reaches-names, names-within}
 use Rattle.block_service.proofs.blocks.Places.{inBlock-blockAt, inBlock-bounds, in-some-block, before-firstByte, firstByte-end, firstByte-le}
 use Rattle.block_service.proofs.service.Steps.{allowed-step, passed-success, Passed, passed-erase, lent-passes, lent-last, refused-step}
 
--- a good list names only blocks that are there
-names-within : (w : List ℕ) (n b : ℕ) → goodList n w ≡ true → T (names w b) → b < n
-unfolding goodList names
-names-within [] n b g t = absurd t
-names-within (f ∷ []) n b g t = absurd t
-names-within (f ∷ c ∷ w) n b g t = go (eqb f endOfList) (eqb c 0) (leb (f + c) n) refl (leb f b) (ltb b (f + c)) refl (names-within w n b) g t
-  where
-    go : (x y z : Bool) → leb (f + c) n ≡ z → (p q : Bool) → ltb b (f + c) ≡ q → (goodList n w ≡ true → T (names w b) → b < n)
-        → (x || (not y && (z && goodList n w))) ≡ true → T (not x && (p && q || names w b)) → b < n
-    go true y z ez p q eq ih g t = absurd t
-    go false true z ez p q eq ih g t = absurd (let k : _≡_ {A = ℕ} 0 1 = cc in omega arith)
-    go false false false ez p q eq ih g t = absurd (let k : _≡_ {A = ℕ} 0 1 = cc in omega arith)
-    go false false true ez true true eq ih g t =
-        let u : f + c ≤ n = leb-true _ _ ez in
-        let w : b < f + c = ltb-true _ _ eq in
-        omega arith
-    go false false true ez true false eq ih g t = ih g t
-    go false false true ez false true eq ih g t = ih g t
-    go false false true ez false false eq ih g t = ih g t
-
--- so a list that is good for n blocks reaches none from block n on
+-- a list that is good for n blocks reaches none from block n on
 good-within : (w : List ℕ) (n : ℕ) → goodList n w ≡ true → reaches n w ≡ false
 good-within w n g = go (reaches n w) refl
   where
     go : (t : Bool) → reaches n w ≡ t → t ≡ false
-    go true e = let r = reaches-names w n e in absurd (omega (arith, names-within w n (r .0) g (r .2)))
+    go true e = let r = reaches-names w n e in absurd (omega (arith, names-within n w g (r .0) (r .2)))
     go false e = refl
 
 -- where no block is protected, a write and an erase are refused by their first four rows alone
@@ -101,7 +81,7 @@ module _ (st : State) (v list : List ℕ) (good : step st v (eraseBlocks list) .
       pick true e =
           let t : T (names list (blockAt (mapOf st) i)) = rw e tt in
           let g : goodList (blocks (mapOf st)) list ≡ true = not-false _ (erase-passed .last) in
-          let n = names-within list (blocks (mapOf st)) (blockAt (mapOf st) i) g t in
+          let n = names-within (blocks (mapOf st)) list g (blockAt (mapOf st) i) t in
           let w : i < bytes (mapOf st) = rw (firstByte-end (mapOf st)) at (before-firstByte (mapOf st) i (blocks (mapOf st)) (omega arith) n) in
           absurd (k (blockAt (mapOf st) i) t (in-some-block (mapOf st) i w))
       pick false e = refl

@@ -17,10 +17,10 @@ use Rattle.volume.specs.Attributes.{flag, readStatus, writeStatus, lockStatus, 
 use Rattle.volume.specs.BlockMap.{blocks}
 use Rattle.volume.specs.State.{mapOf, unlawful, stateWith}
 use Rattle.volume.specs.declared.state.State.{State}
-use Rattle.volume.proofs.state.Lawful.{lawful}
+use Rattle.block_service.specs.Access.{erasedByte}
 use Rattle.block_service.specs.Blocks.{place, inBlock}
 use Rattle.block_service.specs.Erase.{names}
-use Rattle.block_service.specs.Service.{Call, getAttributes, setAttributes, getPhysicalAddress, getBlockSize, read, write, eraseBlocks, protectBlocks, refusals, effect, Result}
+use Rattle.block_service.specs.Service.{Call, getAttributes, setAttributes, getPhysicalAddress, getBlockSize, read, write, eraseBlocks, protectBlocks, acceptErase, carryErase, refusals, effect, Result}
 use Rattle.block_service.specs.Service.{perform, bufferOf, step, decide, Effect, reply, setTo, copyOut, change, withAttributes, withProtected}
 use Rattle.settings.specs.Settings.{statusBits, changesFixed, raises, clears, breaksLock, changesLocked, settingRefusals}
 use Rattle.block_service.specs.declared.blocks.Place.{Place}
@@ -28,9 +28,10 @@ use Rattle.block_service.specs.declared.blocks.Place.the-variants.{At, M
 use Rattle.block_service.proofs.blocks.Places.{place-lost, past-every-block, in-one-block}
 use Rattle.block_service.proofs.erase.Lists.{names-reaches}
 use Rattle.block_service.proofs.service.Erasing.{erase-other}
+use Rattle.block_service.proofs.service.Carrying.{carry-other}
 use Rattle.block_service.proofs.service.Moving.{write-other, write-in-block}
 use Rattle.block_service.proofs.service.Protecting.{protect-passed, lower-lawful}
-use Rattle.block_service.proofs.service.Steps.{refused-step, allowed-step, quiet-step, allowed-answers, passed-write, write-unprotected, passed-erase, erase-unprotected}
+use Rattle.block_service.proofs.service.Steps.{refused-step, allowed-step, quiet-step, allowed-answers, passed-write, write-unprotected, passed-erase, erase-unprotected, carry-passed}
 use Rattle.settings.proofs.Rules.{same-fixed, fixed-bits}
 
 -- ---- what no call changes
@@ -51,6 +52,8 @@ state-cases P st v c same set protect = go (firstRefusal (refusals st (length v)
     allowed (write b o new) e = same
     allowed (eraseBlocks list) e = same
     allowed (protectBlocks first) e = protect first e
+    allowed (acceptErase list) e = same
+    allowed (carryErase list job n) e = same
 
     go : (o : Option ℕ) → firstRefusal (refusals st (length v) c) ≡ o → P (step st v c .state)
     go (some n) e = subst (λ (r : Result). P (r .state)) (refused-step st v c n e) same
@@ -118,6 +121,8 @@ byte-kept st v i writes erases c = go (firstRefusal (refusals st (length v) c)) 
     allowed (eraseBlocks list) e =
         erase-other st v list (sym (ap (λ (r : Result). r .answer) (allowed-step st v (eraseBlocks list) e))) i (λ b t k. erases list b e t k)
     allowed (protectBlocks first) e = ap (λ (w : List ℕ). getD w i 0) (quiet-step st v (protectBlocks first) refl)
+    allowed (acceptErase list) e = ap (λ (w : List ℕ). getD w i 0) (quiet-step st v (acceptErase list) refl)
+    allowed (carryErase list job n) e = carry-other st v list job n e i (λ b t k. erases list b (carry-passed st (length v) list job n e .0) t k)
 
     go : (o : Option ℕ) → firstRefusal (refusals st (length v) c) ≡ o → getD (step st v c .volume) i 0 ≡ getD v i 0
     go (some n) e = ap (λ (r : Result). getD (r .volume) i 0) (sym (refused-step st v c n e))
@@ -184,6 +189,21 @@ lawful-kept st v c ok =
     let p = set-passed st (length v) new e .fixed in
     set-lawful st new (same-attributes (st .edition) (st .attributes) new p) (same-base (st .edition) (st .attributes) new (st .base) p) ok)
     (λ first e. lower-lawful st first (protect-passed st (length v) first e) ok)
+
+-- the erase value cannot be set: it is the same after every call
+same-value : (edition old new : ℕ) → changesFixed edition old new ≡ false → erasedByte new ≡ erasedByte old
+unfolding erasedByte statusBits
+same-value edition old new e = rw (fixed-bits edition old new e 11 (go (eqb edition 2)))
+  where
+    go : (t : Bool) → bit (cond t 0xA0A4 0xA4) 11 ≡ 0
+    go true = refl
+    go false = refl
+
+pub erase-value-kept : (st : State) (v : List ℕ) (c : Call) → erasedByte (step st v c .state .attributes) ≡ erasedByte (st .attributes)
+unfolding withAttributes withProtected stateWith
+erase-value-kept st v c =
+    state-cases (λ s. erasedByte (s .attributes) ≡ erasedByte (st .attributes)) st v c refl
+    (λ new e. same-value (st .edition) (st .attributes) new (set-passed st (length v) new e .fixed)) (λ first e. refl)
 
 -- ---- locks
 
@@ -263,6 +283,8 @@ protection-kept st v c other = go (firstRefusal (refusals st (length v) c)) refl
     allowed (write b o new) unlike = refl
     allowed (eraseBlocks list) unlike = refl
     allowed (protectBlocks first) unlike = absurd (unlike first refl)
+    allowed (acceptErase list) unlike = refl
+    allowed (carryErase list job n) unlike = refl
 
     go : (o : Option ℕ) → firstRefusal (refusals st (length v) c) ≡ o → step st v c .state .protected ≡ st .protected
     go (some n) e = ap (λ (r : Result). r .state .protected) (sym (refused-step st v c n e))

@@ -21,8 +21,9 @@ use Rattle.volume.proofs.state.Lawful.{Lawful, lawful}
 use Rattle.block_service.specs.Access.{countMoved, erasedByte, keep, erase, writeChange, changedByte}
 use Rattle.block_service.specs.Blocks.{place, startOf, lengthOf, blockAt, consecutiveBlocks}
 use Rattle.block_service.specs.Erase.{goodList, names, reaches, eraseChange}
-use Rattle.block_service.specs.Service.{Call, getAttributes, setAttributes, getPhysicalAddress, getBlockSize, read, write, eraseBlocks, protectBlocks, lentRefusals, refusals}
-use Rattle.block_service.specs.Service.{effect, moveAnswer, Result, result, perform, bufferOf, step, decide, reachOf}
+use Rattle.block_service.specs.Service.{Call, getAttributes, setAttributes, getPhysicalAddress, getBlockSize, read, write, eraseBlocks, protectBlocks, acceptErase, carryErase, lentRefusals, refusals}
+use Rattle.block_service.specs.Service.{effect, moveAnswer, carryAnswer, Result, result, perform, bufferOf, step, decide, reachOf}
+use Rattle.block_service.specs.Order.{jobGiven}
 use Rattle.block_service.specs.declared.blocks.Place.the-variants.{At}
 use Rattle.block_service.specs.declared.service.Reach.the-variants as Reach
 use Rattle.block_service.specs.declared.service.Reach.the-variants.{Refused}
@@ -59,6 +60,8 @@ unlawful-step st v (read b o buffer) e = refused-step st v _ 111 (row-applies _ 
 unlawful-step st v (write b o new) e = refused-step st v _ 111 (row-applies _ _ _ e)
 unlawful-step st v (eraseBlocks list) e = refused-step st v _ 111 (row-applies _ _ _ e)
 unlawful-step st v (protectBlocks first) e = refused-step st v _ 111 (row-applies _ _ _ e)
+unlawful-step st v (acceptErase list) e = refused-step st v _ 111 (row-applies _ _ _ e)
+unlawful-step st v (carryErase list job n) e = refused-step st v _ 111 (row-applies _ _ _ e)
 
 -- what the rows say that a read, a write and an erase begin with, where they pass
 pub record Begun (st : State) (n status : ℕ) : Type 0 where
@@ -81,11 +84,11 @@ unfolding lentRefusals
 lent-passes st n status ok long on = row-passes _ _ _ _ ok (row-passes _ _ _ _ (le-ltb _ _ long) (row-passes _ _ _ _ (ap not on) no-row))
 
 -- where they do not: 5 of a lawful state, and 15 where the volume is lent whole
-lent-5 : (st : State) (n status : ℕ) → unlawful st ≡ false → n < st .length → firstRefusal (lentRefusals st n status) ≡ some 5
+pub lent-5 : (st : State) (n status : ℕ) → unlawful st ≡ false → n < st .length → firstRefusal (lentRefusals st n status) ≡ some 5
 unfolding lentRefusals
 lent-5 st n status ok h = row-passes _ _ _ _ ok (row-applies _ _ _ (lt-ltb _ _ h))
 
-lent-15 : (st : State) (n status : ℕ) → unlawful st ≡ false → st .length ≤ n → flag (st .attributes) status ≡ false
+pub lent-15 : (st : State) (n status : ℕ) → unlawful st ≡ false → st .length ≤ n → flag (st .attributes) status ≡ false
     → firstRefusal (lentRefusals st n status) ≡ some 15
 unfolding lentRefusals
 lent-15 st n status ok long off = row-passes _ _ _ _ ok (row-passes _ _ _ _ (le-ltb _ _ long) (row-applies _ _ _ (ap not off)))
@@ -97,15 +100,6 @@ module _ (st : State) (n status : ℕ) (rows : List Row) where
 
   pub lent-then : firstRefusal (lentRefusals st n status) ≡ none → firstRefusal (lentRefusals st n status ++ rows) ≡ firstRefusal rows
   lent-then e = then-passed (lentRefusals st n status) _ e
-
-  -- so the table's refusal is the first three's where they refuse, and otherwise that of the rows behind them
-  pub lent-both : unlessRefused (λ m. some m) (firstRefusal (lentRefusals st n status)) (firstRefusal rows) ≡ firstRefusal (lentRefusals st n status ++ rows)
-  lent-both = go (firstRefusal (lentRefusals st n status)) refl
-    where
-      go : (o : Option ℕ) → firstRefusal (lentRefusals st n status) ≡ o
-          → unlessRefused (λ m. some m) o (firstRefusal rows) ≡ firstRefusal (lentRefusals st n status ++ rows)
-      go none e = sym (lent-then e)
-      go (some m) e = sym (lent-first m e)
 
 module _ (st : State) (n status : ℕ) (t : Bool) (rest : List Row) (e : firstRefusal (lentRefusals st n status) ≡ none) where
   pub lent-2 : t ≡ true → firstRefusal (lentRefusals st n status ++ (row t 2 ∷ rest)) ≡ some 2
@@ -209,6 +203,12 @@ move-answers k n m = go (eqb k n)
     go true e = let z : _≡_ {A = ℕ} 0 1 = cc in omega arith
     go false e = let z : _≡_ {A = ℕ} 0 1 = cc in omega arith
 
+-- so does a carrying on
+carry-answers : (t : Bool) (j m : ℕ) → carryAnswer t j ≡ refused m → ⊥
+unfolding carryAnswer
+carry-answers true j m e = let z : _≡_ {A = ℕ} 0 1 = cc in omega arith
+carry-answers false j m e = let z : _≡_ {A = ℕ} 0 1 = cc in omega arith
+
 -- a call's effect refuses nothing
 effect-answers : (st : State) (v buffer : List ℕ) (c : Call) (n : ℕ) → perform st v buffer (effect st c) .answer ≡ refused n → ⊥
 unfolding perform effect
@@ -220,6 +220,8 @@ effect-answers st v buffer (read b o data') n e = move-answers _ _ n e
 effect-answers st v buffer (write b o new) n e = move-answers _ _ n e
 effect-answers st v buffer (eraseBlocks list) n e = let z : _≡_ {A = ℕ} 0 1 = cc in omega arith
 effect-answers st v buffer (protectBlocks first) n e = let z : _≡_ {A = ℕ} 0 1 = cc in omega arith
+effect-answers st v buffer (acceptErase list) n e = let z : _≡_ {A = ℕ} 0 1 = cc in omega arith
+effect-answers st v buffer (carryErase list job k) n e = carry-answers _ _ n e
 
 -- so a call whose table passes is not refused
 pub allowed-answers : (st : State) (v : List ℕ) (c : Call) → firstRefusal (refusals st (length v) c) ≡ none
@@ -296,6 +298,31 @@ passed-erase st n list e = passed-rows st n writeStatus _ _ e .0
 pub erase-unprotected : (st : State) (n : ℕ) (list : List ℕ) → firstRefusal (refusals st n (eraseBlocks list)) ≡ none → reaches (st .protected) list ≡ false
 unfolding refusals
 erase-unprotected st n list e = row-passed (row (reaches (st .protected) list) 15) [] (passed-rows st n writeStatus _ _ e .1) .0
+
+-- where a carrying on passes its table, so does the erase of its list, and the job is one that the map and the list give
+pub carry-passed : (st : State) (n : ℕ) (list : List ℕ) (job k : ℕ) → firstRefusal (refusals st n (carryErase list job k)) ≡ none
+    → (firstRefusal (refusals st n (eraseBlocks list)) ≡ none) × (jobGiven (mapOf st) list job ≡ true)
+unfolding refusals
+carry-passed st n list job k e =
+    let f = front-passed (lentRefusals st n writeStatus) _ e in
+    let rows = sym (then-passed (lentRefusals st n writeStatus) _ f) ∙ e in
+    let good = row-passed _ _ rows in
+    let given = row-passed _ _ (good .1) in
+    (then-passed (lentRefusals st n writeStatus) _ f ∙ row-passes _ _ _ _ (good .0) (given .1), not-false _ (given .0))
+
+-- and where the erase of a list passes, so does carrying on a job that the map and the list give
+pub carry-passes : (st : State) (n : ℕ) (list : List ℕ) (job k : ℕ) → firstRefusal (refusals st n (eraseBlocks list)) ≡ none → jobGiven (mapOf st) list job ≡ true
+    → firstRefusal (refusals st n (carryErase list job k)) ≡ none
+unfolding refusals
+carry-passes st n list job k e given =
+    let f = front-passed (lentRefusals st n writeStatus) _ e in
+    let good = row-passed _ _ (sym (then-passed (lentRefusals st n writeStatus) _ f) ∙ e) in
+    then-passed (lentRefusals st n writeStatus) _ f ∙ row-passes _ _ _ _ (good .0) (row-passes _ _ _ _ (ap not given) (good .1))
+
+-- where an acceptance passes, the list is good
+pub accept-good : (st : State) (n : ℕ) (list : List ℕ) → firstRefusal (refusals st n (acceptErase list)) ≡ none → goodList (blocks (mapOf st)) list ≡ true
+unfolding refusals
+accept-good st n list e = not-false _ (passed-rows st n writeStatus _ _ e .0 .last)
 
 -- ---- the order of the refusals of the calls that are lent the volume
 

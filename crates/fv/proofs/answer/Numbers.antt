@@ -13,7 +13,7 @@ use Rattle.volume.specs.Header.{openRefusals, opened, opens, openVolume, stateA
 use Rattle.volume.specs.State.{zeroState}
 use Rattle.volume.specs.ExtendedEntry.{entryOf, extEntriesOf, extEntry}
 use Rattle.volume.specs.ExtendedHeader.{Entry}
-use Rattle.block_service.specs.Service.{eraseBlocks, lentRefusals, read, refusals, step, write}
+use Rattle.block_service.specs.Service.{acceptErase, carryErase, eraseBlocks, lentRefusals, read, refusals, step, write}
 use Rattle.volume.specs.declared.state.State.{State}
 use Rattle.block_service.proofs.Theorems.{refused-exactly}
 use Rattle.sections.specs.Append.{appendOf, appendRefusals, usedAfter}
@@ -71,6 +71,19 @@ module _ (st : State) (v : List ℕ) (n : ℕ) where
   erase-number list e =
       first-number (refusals st (length v) (eraseBlocks list)) (large 111 (omega arith), (large 5 (omega arith), (large 15 (omega arith), (two, (large 15 (omega arith), tt))))) n
       (refused-exactly st v (eraseBlocks list) n .0 e)
+
+  pub accept-number : (list : List ℕ) → step st v (acceptErase list) .answer ≡ refused n → IsRefusal n
+  unfolding refusals lentRefusals
+  accept-number list e =
+      first-number (refusals st (length v) (acceptErase list)) (large 111 (omega arith), (large 5 (omega arith), (large 15 (omega arith), (two, (large 15 (omega arith), tt))))) n
+      (refused-exactly st v (acceptErase list) n .0 e)
+
+  pub carry-number : (list : List ℕ) (job stores : ℕ) → step st v (carryErase list job stores) .answer ≡ refused n → IsRefusal n
+  unfolding refusals lentRefusals
+  carry-number list job stores e =
+      first-number (refusals st (length v) (carryErase list job stores))
+      (large 111 (omega arith), (large 5 (omega arith), (large 15 (omega arith), (two, (two, (large 15 (omega arith), tt)))))) n
+      (refused-exactly st v (carryErase list job stores) n .0 e)
 
 pub open-number : (v : List ℕ) (base n : ℕ) → openVolume v base .answer ≡ refused n → IsRefusal n
 unfolding openVolume openRefusals

@@ -1,5 +1,5 @@
--- `block_service::service::erase` meets its contract: the rows of the table, and then the blocks erased.
-use mathlib.Core.Bool.{not}
+-- `block_service::service::erase` meets its contract: the rows of the table, and then all bytes of the order, which are those of the blocks that the list names.
+use mathlib.Core.Bool.{not, true}
 use mathlib.Core.List.{List, [], _∷_, _++_}
 use mathlib.Core.Path.{_≡_, sym, ap, _∙_}
 use mathlib.Core.Option.{none}
@@ -19,6 +19,9 @@ use Rattle.volume.specs.declared.state.State.{State}
 use Rattle.volume.proofs.state.Lawful.{lent-bytes, lent-within}
 use Rattle.block_service.specs.Erase.{goodList, reaches, wholeList}
 use Rattle.block_service.specs.Service.{eraseBlocks, erasedAnswer, bufferOf, lentRefusals, refusals, refusalOf}
+use Rattle.block_service.proofs.carry.Fills.{filled-whole}
+use Rattle.block_service.proofs.carry.Orders.{order-short}
+use Rattle.block_service.proofs.erase.Lists.{names-within}
 use Rattle.block_service.proofs.service.Steps.{refused-step, erase-step, Begun, begun, lent-first, lent-then}
 use Rattle.block_service.proofs.service.erase.Statement.{statement}
 use Rattle.block_service.proofs.service.erase.Tie as tie
@@ -76,6 +79,10 @@ good c = sym (judged (listed c)) ∙ ap refusalOf (c .enum-told2 .given .1)
 passes : (c : tie.After-enum-told2) → firstRefusal (lentRows (first (allowed (listed c))) ++ listRows (first (allowed (listed c)))) ≡ none
 passes c = lent-then _ _ _ _ (lent (allowed (listed c))) ∙ good c
 
+-- so every pair names blocks that are there
+fits : (c : tie.After-enum-told2) → (let asked = first (allowed (listed c)) in goodList (blocks (mapOf (state asked))) (words asked)) ≡ true
+fits c = not-false _ (row-passed _ _ (good c) .0)
+
 lent-refusal-requires : tie.Need-lent-refusal-requires
 lent-refusal-requires c κs = search needs
 
@@ -115,21 +122,21 @@ mul-end c = omega (arith, known (allowed (listed (c .before))) .lawful .entries)
 array-share-prefix-map : tie.Need-array-share-prefix-map
 array-share-prefix-map c = omega (arith, map-length (entry (first (allowed (listed (c .before))))), known (allowed (listed (c .before))) .lawful .entries)
 
-slice-aggregate-erase-list : tie.Need-slice-aggregate-erase-list
-slice-aggregate-erase-list c =
+slice-aggregate-carry-list : tie.Need-slice-aggregate-carry-list
+slice-aggregate-carry-list c =
     let passed = c .before .before in
     sym (length-take-le _ _ (omega (arith, map-length (entry (first (allowed (listed passed)))), known (allowed (listed passed)) .lawful .entries)))
 
 erased-byte-requires : tie.Need-erased-byte-requires
 erased-byte-requires c κs = search needs
 
-erase-list-requires : tie.Need-erase-list-requires
+carry-list-requires : tie.Need-carry-list-requires
 unfolding mapOf
-erase-list-requires c κs =
+carry-list-requires c κs =
     let passed = c .before .before .before .before in
     let b = known (allowed (listed passed)) in
     let k = b .lawful in
-    (lent-bytes _ k, (lent-within _ k _ (b .long), not-false _ (row-passed _ _ (good passed) .0)))
+    ((lent-bytes _ k, k .blocks), (lent-within _ k _ (b .long), fits passed))
 
 same-length : tie.Need-same-length
 same-length c = search needs
@@ -137,9 +144,12 @@ same-length c = search needs
 returns-3 : tie.Need-returns-3
 unfolding erasedAnswer bufferOf refusals mapOf
 returns-3 c =
-    let erased = c .before .before in
-    let passed = erased .before .before .before .before .before in
-    erase-step _ _ _ _ _ (passes passed) (erased .before .erased-byte .ensures) (erased .erase-list .ensures)
+    let stored = c .before .before in
+    let passed = stored .before .before .before .before .before in
+    let b = known (allowed (listed passed)) in
+    let named = names-within _ _ (fits passed) in
+    erase-step _ _ _ _ _ (passes passed) (stored .before .erased-byte .ensures)
+    (stored .carry-list .ensures .1 ∙ filled-whole _ _ _ _ _ named (omega (arith, order-short _ _ named, lent-within _ (b .lawful) _ (b .long))))
 
 pub erase-spec : {M : Type 1} → statement M
 erase-spec =
@@ -156,8 +166,8 @@ erase-spec =
     enum-told-2
     mul-end
     array-share-prefix-map
-    slice-aggregate-erase-list
+    slice-aggregate-carry-list
     erased-byte-requires
-    erase-list-requires
+    carry-list-requires
     same-length
     returns-3)

@@ -1,0 +1,5 @@
+pub mod Fills
+pub mod OrderLists
+pub mod Orders
+pub mod Portions
+pub mod Walks
