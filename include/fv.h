@@ -1,8 +1,8 @@
 /*
  * Firmware volumes, from C: opening, read, write, erase, erase in two operations, the entries of an
- * extended header and the section calls. Each is proved to answer, on every input, what its
- * definition in crates/fv/specs says: 5 for too few bytes, and otherwise what the library's call
- * behind it answers (docs/API.md).
+ * extended header, the section calls, and dependency expressions. Each is proved to answer, on every
+ * input, what its definition in crates/fv/specs says: 5 for too few bytes, and otherwise what the
+ * library's call behind it answers (docs/API.md).
  *
  * `rt staticlib fv` proves and builds target/staticlib/libfv.a: x86-64 code with SSE2, System V
  * calling convention and its red zone, which wants memcpy, memmove and memset of whom it is linked
@@ -12,8 +12,9 @@
  * block's end (what was moved is moved, and the count is answered), or where fv_carry_erase has
  * bytes left to store; or a refusal's number, never 0 or 4. A refusal changes no byte of any range.
  * README.md says what each number means. Two of them come before all others here:
- *     5      fewer than FV_STATE_BYTES of state, FV_ANSWER_BYTES of answer or FV_JOB_BYTES of job
- *     111    the state's bytes are no lawful state
+ *     5      fewer than FV_STATE_BYTES of state, FV_ANSWER_BYTES of answer, FV_JOB_BYTES of job,
+ *            FV_GUIDS_BYTES of GUIDs or FV_VERSIONS_BYTES of versions
+ *     111    of a call that takes a state: its bytes are no lawful one
  *
  * What the caller owes, since nothing can test it: every range, a pointer and a length, is memory
  * that may be read, and stored into where it is not const, until the call returns; its pointer is
@@ -51,6 +52,10 @@ extern "C" {
 
 /* A job: a 64-bit number, little endian. It may be kept over a reboot. */
 #define FV_JOB_BYTES 8
+
+/* The installed firmware: 16 GUIDs of 16 bytes, and 16 versions of 32 bits, little endian. */
+#define FV_GUIDS_BYTES 256
+#define FV_VERSIONS_BYTES 64
 
 /* Section modes: 0, and any other. FV_PI is for files whose sections may have a 32-bit size. */
 #define FV_FRAMEWORK 0
@@ -156,6 +161,66 @@ uint32_t fv_append(uint32_t mode, uint8_t *buffer, size_t buffer_len, uint64_t u
  */
 uint32_t fv_ext_entry(const uint8_t *volume, size_t volume_len, uint64_t number,
                       uint8_t *answer, size_t answer_len);
+
+/*
+ * Dependency expressions of UEFI's firmware management protocol: whether an image suits the firmware
+ * that is installed. An expression is opcodes, each one byte and then its operand, that work on a
+ * stack of versions and truths, up to FV_DEP_END. A comparison takes two versions and leaves whether
+ * the one taken first, which was pushed last, is greater than the other, and so on: 3, then the
+ * camera's version, then FV_DEP_GT asks whether the camera's version is over 3.
+ */
+#define FV_DEP_PUSH_GUID 0x00    /* a GUID, 16 bytes: pushes that firmware's version */
+#define FV_DEP_PUSH_VERSION 0x01 /* a version, 4 bytes, little endian: pushes it */
+#define FV_DEP_VERSION_STR 0x02  /* a text up to and with its zero: for people, pushes nothing */
+#define FV_DEP_AND 0x03          /* takes two truths, pushes whether both hold */
+#define FV_DEP_OR 0x04           /* takes two truths, pushes whether one holds */
+#define FV_DEP_NOT 0x05          /* takes a truth, pushes whether it does not hold */
+#define FV_DEP_TRUE 0x06         /* pushes a truth that holds */
+#define FV_DEP_FALSE 0x07        /* pushes a truth that does not */
+#define FV_DEP_EQ 0x08           /* takes two versions: equal */
+#define FV_DEP_GT 0x09           /* the one taken first is greater than the other */
+#define FV_DEP_GTE 0x0A          /* at least */
+#define FV_DEP_LT 0x0B           /* less than */
+#define FV_DEP_LTE 0x0C          /* at most */
+#define FV_DEP_END 0x0D          /* ends the expression: one truth must be there, and nothing else */
+
+/*
+ * The opcode at the start of the bytes. Answers the opcode, and the place behind its operand; the
+ * operand is the bytes from 1 up to there. Refused with 5 (answer), 305 (no bytes), 301 (no such
+ * opcode), 302 (the operand is cut off, or a text has no zero).
+ */
+uint32_t fv_read_opcode(const uint8_t *opcodes, size_t opcodes_len,
+                        uint8_t *answer, size_t answer_len);
+
+/*
+ * Stores an opcode and its operand at the start of a room; the rest of the room stays. Bytes behind
+ * the operand are dropped. Answers the number of bytes stored, and 0. Refused with 5 (answer),
+ * 301 (no such opcode), 302 (too few bytes for the operand, or a text without a zero), 5 (room).
+ */
+uint32_t fv_write_opcode(uint8_t opcode, const uint8_t *operand, size_t operand_len,
+                         uint8_t *room, size_t room_len, uint8_t *answer, size_t answer_len);
+
+/*
+ * Tests an expression up to its end, whatever firmware is installed; bytes behind the end are
+ * ignored. Answers nothing but its number. Refused with 301 and 302 as fv_read_opcode, 303 (an
+ * opcode takes more values than there are, or would leave more than 32), 304 (an opcode takes a
+ * version for a truth, or the reverse), 305 (no end, also where there are no bytes, or other than
+ * one truth there): the first in reading order, and at one opcode the lowest.
+ */
+uint32_t fv_validate_dependency(const uint8_t *expression, size_t expression_len);
+
+/*
+ * Whether an expression holds of the installed firmware: the first `used` of 16 GUIDs, with the
+ * versions beside them; of a GUID that stands there twice the first counts. All 256 and 64 bytes are
+ * lent, also where fewer rows are used; what the others hold does not matter. Answers 1 where it
+ * holds and 0 where it does not, and then 0; the number returned is 0 both times. Refused with
+ * 5 (GUIDs, versions or answer), 2 (`used` above 16), 301 to 305 as fv_validate_dependency, 14 (a
+ * GUID of the expression is in no used row, whether or not the answer hangs on it).
+ */
+uint32_t fv_evaluate_dependency(const uint8_t *expression, size_t expression_len,
+                                const uint8_t *guids, size_t guids_len,
+                                const uint8_t *versions, size_t versions_len, uint64_t used,
+                                uint8_t *answer, size_t answer_len);
 
 #ifdef __cplusplus
 }

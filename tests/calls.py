@@ -13,12 +13,15 @@ from model import loader
 Request = namedtuple("Request", "name call arguments script line number kept")
 
 # The calls by their numbers, with the arguments of each in their order: n a number, else a range by its place, a small letter
-# where it is lent as const. The places are state, volume (also a stream, a buffer of sections), data (also a buffer that is
-# read into, an erase list, a section's body) and answer (also a job, which is read too).
+# where it is lent as const. The places are state (also GUIDs), volume (also a stream, a buffer of sections, an expression, the room
+# of an opcode), data (also a buffer that is read into, an erase list, a section's body, an operand, versions) and answer (also a job,
+# which is read too).
 CALLS = (("open", "Svn", loader.fv_open), ("read", "svnnDA", loader.fv_read), ("write", "sVnndA", loader.fv_write),
          ("erase", "sVd", loader.fv_erase), ("search", "nvnnA", loader.fv_search), ("search first", "nvnA", loader.fv_search_first),
          ("append", "nVnndA", loader.fv_append), ("ext entry", "vnA", loader.fv_ext_entry),
-         ("accept erase", "svdA", loader.fv_accept_erase), ("carry erase", "sVdAn", loader.fv_carry_erase))
+         ("accept erase", "svdA", loader.fv_accept_erase), ("carry erase", "sVdAn", loader.fv_carry_erase),
+         ("read opcode", "vA", loader.fv_read_opcode), ("write opcode", "ndVA", loader.fv_write_opcode),
+         ("validate dependency", "v", loader.fv_validate_dependency), ("evaluate dependency", "vsdnA", loader.fv_evaluate_dependency))
 NUMBERS = {name: i for i, (name, _, _) in enumerate(CALLS)}
 PLACES = "svda"
 KEPT = 2**32 - 1        # in the place of a range's number of pieces

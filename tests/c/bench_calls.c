@@ -17,11 +17,16 @@ static const struct {
     __typeof__(&fv_search_first) search_first;
     __typeof__(&fv_append) append;
     __typeof__(&fv_ext_entry) ext_entry;
+    __typeof__(&fv_read_opcode) read_opcode;
+    __typeof__(&fv_write_opcode) write_opcode;
+    __typeof__(&fv_validate_dependency) validate_dependency;
+    __typeof__(&fv_evaluate_dependency) evaluate_dependency;
 } entry_points[] = {
     [LIBRARY] = {fv_open, fv_read, fv_write, fv_erase, fv_accept_erase, fv_carry_erase, fv_search, fv_search_first,
-                 fv_append, fv_ext_entry},
+                 fv_append, fv_ext_entry, fv_read_opcode, fv_write_opcode, fv_validate_dependency, fv_evaluate_dependency},
     [PLAIN] = {plain_open, plain_read, plain_write, plain_erase, plain_accept_erase, plain_carry_erase, plain_search,
-               plain_search_first, plain_append, plain_ext_entry},
+               plain_search_first, plain_append, plain_ext_entry, plain_read_opcode, plain_write_opcode,
+               plain_validate_dependency, plain_evaluate_dependency},
 };
 
 /* Not known to the compiler, which would replace calls of few bytes. */
@@ -112,6 +117,21 @@ uint32_t repeat(enum who who, struct work *w, long times)
         break;
     case EXT_ENTRY:
         TIMES(entry_points[who].ext_entry(w->bytes, w->bytes_len, w->number, w->answer, sizeof w->answer));
+        break;
+    case READ_OPCODE:
+        TIMES(entry_points[who].read_opcode(w->bytes, w->bytes_len, w->answer, sizeof w->answer));
+        break;
+    case WRITE_OPCODE:
+        TIMES(entry_points[who].write_opcode(w->type, w->data, w->data_len, w->bytes, w->bytes_len,
+                                             w->answer, sizeof w->answer));
+        break;
+    case VALIDATE_DEPENDENCY:
+        TIMES(entry_points[who].validate_dependency(w->bytes, w->bytes_len));
+        break;
+    case EVALUATE_DEPENDENCY:
+        TIMES(entry_points[who].evaluate_dependency(w->bytes, w->bytes_len, w->guids, sizeof w->guids,
+                                                    w->versions, sizeof w->versions, w->used,
+                                                    w->answer, sizeof w->answer));
         break;
     }
     return n;

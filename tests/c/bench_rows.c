@@ -1,5 +1,6 @@
-/* The rows of the benchmark: the volumes, erase lists and section streams that each one works on. */
+/* The rows of the benchmark: the volumes, erase lists, section streams and dependency expressions that each one works on. */
 #include "bench.h"
+#include "fv.h"
 #include "plain.h"
 
 #include <string.h>
@@ -312,6 +313,126 @@ static void prepare_append(struct work *w, int count, int unused)
     pattern(data, w->data_len, 251);
 }
 
+/* ---- Dependency expressions ---- */
+
+enum { VALIDATE, EVALUATE, ROWS = 16 };
+
+/* Every row used; row i has the version i. */
+static void prepare_installed(struct work *w)
+{
+    pattern(w->guids, sizeof w->guids, 251);
+    for (int i = 0; i < ROWS; i++)
+        put(w->versions + 4 * i, (uint64_t)i, 4);
+    w->used = ROWS;
+}
+
+/* These put an opcode with its operand, and answer the place behind it. */
+static uint8_t *put_opcode(uint8_t *to, uint8_t opcode)
+{
+    *to = opcode;
+    return to + 1;
+}
+
+static uint8_t *put_guid(uint8_t *to, const struct work *w, int row)
+{
+    memcpy(put_opcode(to, FV_DEP_PUSH_GUID), w->guids + 16 * row, 16);
+    return to + 17;
+}
+
+static uint8_t *put_version(uint8_t *to, uint32_t version)
+{
+    put(put_opcode(to, FV_DEP_PUSH_VERSION), version, 4);
+    return to + 5;
+}
+
+/* A text of so many bytes, its zero among them. */
+static uint8_t *put_text(uint8_t *to, size_t length)
+{
+    memset(put_opcode(to, FV_DEP_VERSION_STR), 'x', length - 1);
+    to[length] = 0;
+    return to + 1 + length;
+}
+
+/* The end, at this place of the bytes. */
+static void prepare_expression(struct work *w, int evaluate, uint8_t *end)
+{
+    w->call = evaluate ? EVALUATE_DEPENDENCY : VALIDATE_DEPENDENCY;
+    w->bytes = bytes;
+    w->bytes_len = (size_t)(put_opcode(end, FV_DEP_END) - bytes);
+}
+
+/* Whether the firmware of row 3 is at least version 2 and that of row 7 below 9. */
+static void prepare_short_expression(struct work *w, int evaluate, int unused)
+{
+    uint8_t *to = bytes;
+    (void)unused;
+    prepare_installed(w);
+    to = put_opcode(put_guid(put_version(to, 2), w, 3), FV_DEP_GTE);
+    to = put_opcode(put_guid(put_version(to, 9), w, 7), FV_DEP_LT);
+    prepare_expression(w, evaluate, put_opcode(to, FV_DEP_AND));
+}
+
+/* TRUE, and 1 MiB of TRUE AND. */
+static void prepare_truths(struct work *w, int evaluate, int unused)
+{
+    uint8_t *to = put_opcode(bytes, FV_DEP_TRUE);
+    (void)unused;
+    prepare_installed(w);
+    while (to - bytes < MIB)
+        to = put_opcode(put_opcode(to, FV_DEP_TRUE), FV_DEP_AND);
+    prepare_expression(w, evaluate, to);
+}
+
+/* TRUE, and 1 MiB of: whether the firmware of a row is at least version 0, AND. */
+static void prepare_guids(struct work *w, int evaluate, int row)
+{
+    uint8_t *to = put_opcode(bytes, FV_DEP_TRUE);
+    prepare_installed(w);
+    while (to - bytes < MIB)
+        to = put_opcode(put_opcode(put_guid(put_version(to, 0), w, row), FV_DEP_GTE), FV_DEP_AND);
+    prepare_expression(w, evaluate, to);
+}
+
+/* TRUE, and texts of this length up to 1 MiB; or one of 64 KiB. */
+static void prepare_texts(struct work *w, int evaluate, int length)
+{
+    uint8_t *to = put_opcode(bytes, FV_DEP_TRUE);
+    prepare_installed(w);
+    do
+        to = put_text(to, (size_t)length);
+    while (length < 64 * KIB && to - bytes < MIB);
+    prepare_expression(w, evaluate, to);
+}
+
+/* The first opcode of the bytes: a GUID, or a text of so many bytes. */
+static size_t one_opcode(struct work *w, int text)
+{
+    prepare_installed(w);
+    uint8_t *end = text ? put_text(bytes, (size_t)text) : put_guid(bytes, w, 3);
+    return (size_t)(end - bytes);
+}
+
+static void prepare_read_opcode(struct work *w, int text, int unused)
+{
+    (void)unused;
+    w->bytes_len = one_opcode(w, text);
+    w->call = READ_OPCODE;
+    w->bytes = bytes;
+}
+
+static void prepare_write_opcode(struct work *w, int text, int unused)
+{
+    (void)unused;
+    w->bytes_len = one_opcode(w, text);
+    w->call = WRITE_OPCODE;
+    w->type = bytes[0];
+    w->data = data;
+    w->data_len = w->bytes_len - 1;
+    w->bytes = bytes;
+    memcpy(data, bytes + 1, w->data_len);
+    memset(bytes, 0xFF, w->bytes_len);
+}
+
 const struct row rows[] = {
     {"open, 1 map entry", "", prepare_open, 1, 0},
     {"open, 32 map entries", "", prepare_open, 32, 0},
@@ -363,6 +484,21 @@ const struct row rows[] = {
     {"search_first 16 MiB nested eight deep, last", "", prepare_nested, AT_LAST, 1},
     {"append 4 KiB", "memcpy", prepare_append, 4 * KIB, 0},
     {"append 16 MB", "memcpy", prepare_append, 16000000, 0},
+    {"read_opcode, a GUID", "", prepare_read_opcode, 0, 0},
+    {"read_opcode, a text of 20 bytes", "", prepare_read_opcode, 20, 0},
+    {"write_opcode, a GUID", "", prepare_write_opcode, 0, 0},
+    {"write_opcode, a text of 20 bytes", "", prepare_write_opcode, 20, 0},
+    {"validate_dependency, two GUIDs compared, AND", "", prepare_short_expression, VALIDATE, 0},
+    {"evaluate_dependency, two GUIDs compared, AND", "", prepare_short_expression, EVALUATE, 0},
+    {"validate_dependency, 1 MiB of TRUE AND", "", prepare_truths, VALIDATE, 0},
+    {"evaluate_dependency, 1 MiB of TRUE AND", "", prepare_truths, EVALUATE, 0},
+    {"validate_dependency, 1 MiB of GUIDs compared, AND", "", prepare_guids, VALIDATE, 0},
+    {"evaluate_dependency, 1 MiB of GUIDs compared, AND, row 0", "", prepare_guids, EVALUATE, 0},
+    {"evaluate_dependency, 1 MiB of GUIDs compared, AND, row 15", "", prepare_guids, EVALUATE, 15},
+    {"validate_dependency, 1 MiB of texts of 20 bytes", "", prepare_texts, VALIDATE, 20},
+    {"evaluate_dependency, 1 MiB of texts of 20 bytes", "", prepare_texts, EVALUATE, 20},
+    {"validate_dependency, a text of 64 KiB", "", prepare_texts, VALIDATE, 64 * KIB},
+    {"evaluate_dependency, a text of 64 KiB", "", prepare_texts, EVALUATE, 64 * KIB},
 };
 
 const size_t rows_len = sizeof rows / sizeof rows[0];

@@ -22,6 +22,10 @@
 
 _Static_assert(FV_STATE_BYTES == 304 && FV_ANSWER_BYTES == 16, "document 02's numbers");
 _Static_assert(FV_JOB_BYTES == 8, "a job is one 64-bit number");
+_Static_assert(FV_GUIDS_BYTES == 256 && FV_VERSIONS_BYTES == 64, "sixteen rows");
+_Static_assert(FV_DEP_PUSH_GUID == 0 && FV_DEP_PUSH_VERSION == 1 && FV_DEP_VERSION_STR == 2 && FV_DEP_AND == 3 && FV_DEP_OR == 4
+               && FV_DEP_NOT == 5 && FV_DEP_TRUE == 6 && FV_DEP_FALSE == 7 && FV_DEP_EQ == 8 && FV_DEP_GT == 9 && FV_DEP_GTE == 10
+               && FV_DEP_LT == 11 && FV_DEP_LTE == 12 && FV_DEP_END == 13, "document 004's opcodes");
 _Static_assert(FV_FRAMEWORK == 0 && FV_PI != 0, "document 02's modes");
 
 /* ---- The script ---- */
@@ -101,10 +105,12 @@ static void take_range(int place, int constant, int at_start)
     lend_alone(place, length, constant, at_start);
 }
 
-enum { OPEN, READ, WRITE, ERASE, SEARCH, SEARCH_FIRST, APPEND, EXT_ENTRY, ACCEPT_ERASE, CARRY_ERASE, CALLS };
+enum { OPEN, READ, WRITE, ERASE, SEARCH, SEARCH_FIRST, APPEND, EXT_ENTRY, ACCEPT_ERASE, CARRY_ERASE,
+       READ_OPCODE, WRITE_OPCODE, VALIDATE_DEPENDENCY, EVALUATE_DEPENDENCY, CALLS };
 
 /* The arguments of each call in their order: n a number, else a range by its place, a small letter where it is lent as const. */
-static const char *const SHAPES[CALLS] = {"Svn", "svnnDA", "sVnndA", "sVd", "nvnnA", "nvnA", "nVnndA", "vnA", "svdA", "sVdAn"};
+static const char *const SHAPES[CALLS] = {"Svn", "svnnDA", "sVnndA", "sVd", "nvnnA", "nvnA", "nVnndA", "vnA", "svdA", "sVdAn",
+                                          "vA", "ndVA", "v", "vsdnA"};
 
 static uint64_t numbers[4];
 static unsigned call;
@@ -144,7 +150,11 @@ static uint32_t number_returned(void)
     case APPEND: return noted_fv_append((uint32_t)a, LENT(VOLUME), b, (uint8_t)c, LENT(DATA), LENT(ANSWER));
     case EXT_ENTRY: return noted_fv_ext_entry(LENT(VOLUME), a, LENT(ANSWER));
     case ACCEPT_ERASE: return noted_fv_accept_erase(LENT(STATE), LENT(VOLUME), LENT(DATA), LENT(ANSWER));
-    default: return noted_fv_carry_erase(LENT(STATE), LENT(VOLUME), LENT(DATA), LENT(ANSWER), a);
+    case CARRY_ERASE: return noted_fv_carry_erase(LENT(STATE), LENT(VOLUME), LENT(DATA), LENT(ANSWER), a);
+    case READ_OPCODE: return noted_fv_read_opcode(LENT(VOLUME), LENT(ANSWER));
+    case WRITE_OPCODE: return noted_fv_write_opcode((uint8_t)a, LENT(DATA), LENT(VOLUME), LENT(ANSWER));
+    case VALIDATE_DEPENDENCY: return noted_fv_validate_dependency(LENT(VOLUME));
+    default: return noted_fv_evaluate_dependency(LENT(VOLUME), LENT(STATE), LENT(DATA), a, LENT(ANSWER));
     }
 }
 

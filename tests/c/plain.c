@@ -1,5 +1,6 @@
 /* The calls of fv.h in plain C11: plain.h says what for. */
 #include "plain.h"
+#include "plain_dependency.h"
 #include "plain_order.h"
 #include "plain_state.h"
 #include "plain_walk.h"
@@ -361,4 +362,55 @@ uint32_t plain_append(uint32_t mode, uint8_t *buffer, size_t buffer_len, uint64_
         memcpy(buffer + start + 4, &size, 4);
     memcpy(buffer + start + header, body, body_len);
     return answered(answer, end, 0, SUCCESS);
+}
+
+/* ---- Dependency expressions ---- */
+
+uint32_t plain_read_opcode(const uint8_t *bytes, size_t bytes_len,
+                           uint8_t *answer, size_t answer_len)
+{
+    size_t operand;
+    if (answer_len < ANSWER_BYTES)
+        return TOO_SMALL;
+    if (bytes_len == 0)
+        return 305;
+    uint32_t refusal = operand_length(bytes[0], bytes + 1, bytes_len - 1, &operand);
+    return refusal ? refusal : answered(answer, bytes[0], 1 + operand, SUCCESS);
+}
+
+uint32_t plain_write_opcode(uint8_t opcode, const uint8_t *operand, size_t operand_len,
+                            uint8_t *room, size_t room_len, uint8_t *answer, size_t answer_len)
+{
+    size_t length;
+    if (answer_len < ANSWER_BYTES)
+        return TOO_SMALL;
+    uint32_t refusal = operand_length(opcode, operand, operand_len, &length);
+    if (refusal)
+        return refusal;
+    if (room_len < 1 + length)
+        return TOO_SMALL;
+    room[0] = opcode;
+    memcpy(room + 1, operand, length);
+    return answered(answer, 1 + length, 0, SUCCESS);
+}
+
+uint32_t plain_validate_dependency(const uint8_t *expression, size_t expression_len)
+{
+    return expression_refusal(expression, expression_len);
+}
+
+uint32_t plain_evaluate_dependency(const uint8_t *expression, size_t expression_len,
+                                   const uint8_t *guids, size_t guids_len,
+                                   const uint8_t *versions, size_t versions_len, uint64_t used,
+                                   uint8_t *answer, size_t answer_len)
+{
+    uint32_t truth;
+    if (guids_len < ROWS * GUID_BYTES || versions_len < ROWS * VERSION_BYTES || answer_len < ANSWER_BYTES)
+        return TOO_SMALL;
+    if (used > ROWS)
+        return INVALID;
+    uint32_t refusal = expression_refusal(expression, expression_len);
+    if (!refusal)
+        refusal = expression_value(expression, guids, versions, used, &truth);
+    return refusal ? refusal : answered(answer, truth, 0, SUCCESS);
 }

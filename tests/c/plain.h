@@ -21,6 +21,10 @@
 #define plain_search_first fv_search_first
 #define plain_append fv_append
 #define plain_ext_entry fv_ext_entry
+#define plain_read_opcode fv_read_opcode
+#define plain_write_opcode fv_write_opcode
+#define plain_validate_dependency fv_validate_dependency
+#define plain_evaluate_dependency fv_evaluate_dependency
 #endif
 
 uint32_t plain_open(uint8_t *state, size_t state_len,
@@ -57,5 +61,18 @@ uint32_t plain_append(uint32_t mode, uint8_t *buffer, size_t buffer_len, uint64_
 
 uint32_t plain_ext_entry(const uint8_t *volume, size_t volume_len, uint64_t number,
                          uint8_t *answer, size_t answer_len);
+
+uint32_t plain_read_opcode(const uint8_t *bytes, size_t bytes_len,
+                           uint8_t *answer, size_t answer_len);
+
+uint32_t plain_write_opcode(uint8_t opcode, const uint8_t *operand, size_t operand_len,
+                            uint8_t *room, size_t room_len, uint8_t *answer, size_t answer_len);
+
+uint32_t plain_validate_dependency(const uint8_t *expression, size_t expression_len);
+
+uint32_t plain_evaluate_dependency(const uint8_t *expression, size_t expression_len,
+                                   const uint8_t *guids, size_t guids_len,
+                                   const uint8_t *versions, size_t versions_len, uint64_t used,
+                                   uint8_t *answer, size_t answer_len);
 
 #endif

@@ -30,6 +30,10 @@ NOTED(fv_append);
 NOTED(fv_ext_entry);
 NOTED(fv_accept_erase);
 NOTED(fv_carry_erase);
+NOTED(fv_read_opcode);
+NOTED(fv_write_opcode);
+NOTED(fv_validate_dependency);
+NOTED(fv_evaluate_dependency);
 
 static uint8_t *own_stack;
 static ucontext_t on_own, on_usual;

@@ -1,15 +1,15 @@
-"""The loader's calls, request m of 02 and include/fv.h: the calls of volume.py and sections.py on plain numbers and byte ranges,
-the state packed into 304 bytes.
+"""The loader's calls, request m of 02 and include/fv.h: the calls of volume.py, sections.py and dependency.py on plain numbers and
+byte ranges, the state packed into 304 bytes, the installed firmware into 256 bytes of GUIDs and 64 of versions.
 
 Each function has the arguments of its C entry point in their order, a range as one value, and answers the number that is returned.
 Ranges that are not const are bytearrays and are changed in place; a range that is longer than what is stored keeps the rest.
 """
 
-from model import sections, volume
+from model import dependency, sections, volume
 from model.volume import State
 
-STATE_BYTES, ANSWER_BYTES, JOB_BYTES = 304, 16, 8
-SHORT_STATE_OR_ANSWER = 5       # or job
+STATE_BYTES, ANSWER_BYTES, JOB_BYTES, GUIDS_BYTES, VERSIONS_BYTES = 304, 16, 8, 256, 64
+SHORT_STATE_OR_ANSWER = 5       # or job, GUIDs, versions
 SUCCESS, SHORT, NOT_FINISHED = 0, 4, 4
 
 
@@ -59,7 +59,7 @@ def words_of(data):
     return [number(data, i, 8) for i in range(0, len(data) - 7, 8)]
 
 
-# The ten calls.
+# The fourteen calls.
 
 def fv_open(state, data, base):
     if len(state) < STATE_BYTES:
@@ -129,3 +129,26 @@ def fv_ext_entry(data, n, answer):
         return SHORT_STATE_OR_ANSWER
     no, first, size, entry_type = volume.ext_entry(data, n)
     return answered(answer, no, first, size + 65536 * entry_type)
+
+
+def fv_read_opcode(data, answer):
+    if len(answer) < ANSWER_BYTES:
+        return SHORT_STATE_OR_ANSWER
+    return answered(answer, *dependency.read_opcode(data))
+
+
+def fv_write_opcode(opcode, operand, room, answer):
+    if len(answer) < ANSWER_BYTES:
+        return SHORT_STATE_OR_ANSWER
+    return answered(answer, *dependency.write_opcode(opcode, operand, room))
+
+
+def fv_validate_dependency(expression):
+    return dependency.validate(expression)
+
+
+def fv_evaluate_dependency(expression, guids, versions, used, answer):
+    if len(guids) < GUIDS_BYTES or len(versions) < VERSIONS_BYTES or len(answer) < ANSWER_BYTES:
+        return SHORT_STATE_OR_ANSWER
+    rows = [(bytes(guids[16 * i:16 * i + 16]), number(versions, 4 * i, 4)) for i in range(dependency.ROWS)]
+    return answered(answer, *dependency.evaluate(expression, rows, used))

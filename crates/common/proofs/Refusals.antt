@@ -1,6 +1,6 @@
 -- Laws of refusal tables: what a passed table says of its rows, and a table made of two.
 use Prim.Native.Nat.{ℕ}
-use mathlib.Core.Path.{_≡_, refl, sym, ap, _∙_}
+use mathlib.Core.Path.{_≡_, refl, sym, ap, subst, _∙_}
 use mathlib.Core.Bool.{Bool, true, false, cond, _||_, or-assoc, true≢false}
 use mathlib.Core.List.{List, [], _∷_, _++_}
 use mathlib.Core.Option.{Option, none, some, Option·some-ne-none, Option·none-ne-some}
@@ -71,3 +71,17 @@ idle-row (r ∷ rest) t u n m h = rw (idle-row rest t u n m h)
 pub no-row : firstRefusal [] ≡ none
 unfolding firstRefusal
 no-row = refl
+
+-- what holds of the number of every row of a table holds of the number that it refuses with
+abbrev pub AllNumbers : (ℕ → Type 0) → List Row → Type 0
+AllNumbers P [] = Unit {0}
+AllNumbers P (r ∷ rest) = P (r .number) × AllNumbers P rest
+
+pub refusal-number : (P : ℕ → Type 0) (rows : List Row) → AllNumbers P rows → (n : ℕ) → firstRefusal rows ≡ some n → P n
+unfolding firstRefusal
+refusal-number P [] all n e = absurd (Option·none-ne-some n e)
+refusal-number P (r ∷ rest) all n e = go (r .test) (refusal-number P rest (all .1) n) e
+  where
+    go : (t : Bool) → (firstRefusal rest ≡ some n → P n) → cond t (some (r .number)) (firstRefusal rest) ≡ some n → P n
+    go true later e = let z : r .number ≡ n = cc in subst P z (all .0)
+    go false later e = later e

@@ -1,21 +1,24 @@
--- What a reader of document 02's requests m and g may want to know of the calls from C, beyond the contracts of src/: each theorem with 02's words. The laws stand
+-- What a reader of document 02's requests m, g and k may want to know of the calls from C, beyond the contracts of src/: each theorem with 02's words. The laws stand
 -- under the module of src/ that they serve.
-use Prim.Native.Nat.{ℕ, _+_, _≤_, _<_, _^_}
+use Prim.Native.Nat.{ℕ, _+_, _*_, _≤_, _<_, _^_}
 use mathlib.Core.Path.{_≡_, refl, sym, ap, _∙_}
 use mathlib.Core.Bool.{true, false}
 use mathlib.Core.List.{List, [], _∷_, _++_}
+use mathlib.Core.Logic.{_⊎_}
 use mathlib.Core.Option.{none}
+use native.Mathlib.Nat.{zero-add}
 use native.Mathlib.Omega.{arith}
-use lib.ListN.{length, getD, drop, length-append}
+use lib.ListN.{length, getD, take, drop, length-append}
 use Rattle.common.specs.Answers.{Answer, refused, success, numberOf, valuesOf}
 use Rattle.common.proofs.Refusals.{no-row}
 use Rattle.numbers.specs.LittleEndian.{le, leBytes}
 use Rattle.numbers.proofs.LittleEndian.{le-leBytes}
 use Rattle.volume.specs.ExtendedEntry.{extEntry}
-use Rattle.volume.specs.Header.{openVolume}
+use Rattle.volume.specs.Header.{openVolume, wordsAt}
 use Rattle.volume.specs.State.{unlawful}
 use Rattle.volume.specs.declared.state.State.{State}
 use Rattle.volume.proofs.Theorems.{opened-lawful}
+use Rattle.volume.proofs.header.Fields.{wordsAt-at}
 use Rattle.block_service.specs.Service.{Result, acceptErase, bufferOf, carryErase, eraseBlocks, read, step, write}
 use Rattle.block_service.specs.Erase.{listWords}
 use Rattle.block_service.proofs.Theorems.{order-111, refused-changes-nothing}
@@ -23,14 +26,22 @@ use Rattle.sections.specs.Append.{appendOf}
 use Rattle.sections.specs.Search.{searchFirstOf, searchOf}
 use Rattle.sections.specs.declared.header.Mode.{Mode}
 use Rattle.sections.proofs.Theorems.{refused-keeps}
+use Rattle.dependency.specs.Evaluation.{evaluateOf}
+use Rattle.dependency.specs.Opcodes.{readOpcode, writeOpcode}
+use Rattle.dependency.specs.Validation.{validateOf}
+use Rattle.dependency.proofs.Theorems.{write-refusal}
 use Rattle.fv.specs.Answer.{answerBytes, answerStored, entryWords}
-use Rattle.fv.specs.Called.{IsRefusal, called}
+use Rattle.fv.specs.Called.{IsRefusal, called, answerCall}
+use Rattle.fv.specs.DependencyCalls.{guidsBytes, guidsIn, versionsBytes, writeOpcodeCall, evaluateCall}
 use Rattle.fv.specs.Packed.{packed, unpacked, stateBytes, Typed}
 use Rattle.fv.specs.VolumeCalls.{entryCall, eraseCall, openCall, readCall, writeCall, stateAfter}
 use Rattle.fv.specs.JobCalls.{acceptCall, carryCall, jobBytes, jobIn, jobStored}
-use Rattle.fv.specs.SectionCalls.{appendCall, foundCall, modeOf}
+use Rattle.fv.specs.SectionCalls.{appendCall, modeOf}
+use Rattle.fv.proofs.answer.Answers as Answers
 use Rattle.fv.proofs.answer.Answers.{enough}
 use Rattle.fv.proofs.answer.Numbers as Numbers
+use Rattle.fv.proofs.dependency_calls.Calls as Dependency
+use Rattle.fv.proofs.dependency_calls.Tables as Tables
 use Rattle.fv.proofs.job_calls.Calls as Jobs
 use Rattle.fv.proofs.packed.Opened as Opened
 use Rattle.fv.proofs.packed.Packing as Packing
@@ -231,14 +242,14 @@ module _ (state v list job : List ℕ) (stores : ℕ) where
       pub carry-111 : unlawful (unpacked state) ≡ true → carryCall state v list job stores ≡ called 111 (v ∷ job ∷ [])
       carry-111 e = carry-refused 111 (ap (λ (r : Result). r .answer) (order-111 (unpacked state) v (carryErase (listWords list) (jobIn job) stores) e))
 
-module _ (found : Answer) (answer : List ℕ) where
-  -- of a search, and of the search for the first
-  pub search-few-answer : length answer < answerBytes → foundCall found answer ≡ called 5 (answer ∷ [])
-  search-few-answer h = sym (Sections.found-few found answer h)
+module _ (inner : Answer) (answer : List ℕ) where
+  -- of a search, of the search for the first, of an entry, and of reading an opcode (`searchCall`, `searchFirstCall`, `entryCall`, `readOpcodeCall`)
+  pub answer-few : length answer < answerBytes → answerCall inner answer ≡ called 5 (answer ∷ [])
+  answer-few h = sym (Answers.answer-few inner answer h)
 
-  pub search-refused : answerBytes ≤ length answer → (n : ℕ) → found ≡ refused n → foundCall found answer ≡ called n (answer ∷ [])
-  unfolding foundCall numberOf valuesOf answerStored
-  search-refused room n e = rw (enough (length answer) answerBytes [] none room no-row, e)
+  pub answer-refused : answerBytes ≤ length answer → (n : ℕ) → inner ≡ refused n → answerCall inner answer ≡ called n (answer ∷ [])
+  unfolding answerCall numberOf valuesOf answerStored
+  answer-refused room n e = rw (enough (length answer) answerBytes [] none room no-row, e)
 
 module _ (mode : ℕ) (buffer : List ℕ) (used sectionType : ℕ) (body answer : List ℕ) where
   -- of an append
@@ -253,14 +264,39 @@ module _ (mode : ℕ) (buffer : List ℕ) (used sectionType : ℕ) (body answer 
       let kept = refused-keeps (modeOf mode) buffer used sectionType body (λ z. other (sym (ap numberOf e) ∙ z)) in
       rw (enough (length answer) answerBytes [] none room no-row, kept, e)
 
-module _ (v : List ℕ) (number : ℕ) (answer : List ℕ) where
-  -- and of an entry
-  pub entry-few-answer : length answer < answerBytes → entryCall v number answer ≡ called 5 (answer ∷ [])
-  entry-few-answer h = sym (Calls.entry-few v number answer h)
+-- an entry that is refused is one of the calls above
+pub entry-refused : (v : List ℕ) (number : ℕ) (answer : List ℕ) → answerBytes ≤ length answer → (n : ℕ) → extEntry v number ≡ refused n → entryCall v number answer ≡ called n (answer ∷ [])
+unfolding entryWords
+entry-refused v number answer room n e = answer-refused (entryWords (extEntry v number)) answer room n (rw e)
 
-  pub entry-refused : answerBytes ≤ length answer → (n : ℕ) → extEntry v number ≡ refused n → entryCall v number answer ≡ called n (answer ∷ [])
-  unfolding entryCall entryWords numberOf valuesOf answerStored
-  entry-refused room n e = rw (enough (length answer) answerBytes [] none room no-row, e)
+module _ (code : ℕ) (operand room answer : List ℕ) where
+  -- of writing an opcode
+  pub write-opcode-few : length answer < answerBytes → writeOpcodeCall code operand room answer ≡ called 5 (room ∷ answer ∷ [])
+  write-opcode-few h = sym (Dependency.write-few code operand room answer h)
+
+  pub write-opcode-refused : answerBytes ≤ length answer → (n : ℕ) → writeOpcode code operand room .answer ≡ refused n
+      → writeOpcodeCall code operand room answer ≡ called n (room ∷ answer ∷ [])
+  unfolding writeOpcodeCall numberOf valuesOf answerStored
+  write-opcode-refused long n e = rw (enough (length answer) answerBytes [] none long no-row, e, write-refusal code operand room n e .1)
+
+module _ (expression guids versions : List ℕ) (used : ℕ) (answer : List ℕ) where
+  -- and of an evaluation: 5 for too few bytes of the table or the answer, before the others
+  pub evaluate-few : (length guids < guidsBytes) ⊎ ((length versions < versionsBytes) ⊎ (length answer < answerBytes))
+      → evaluateCall expression guids versions used answer ≡ called 5 (answer ∷ [])
+  evaluate-few = Dependency.evaluate-few expression guids versions used answer
+
+  pub evaluate-refused : guidsBytes ≤ length guids → versionsBytes ≤ length versions → answerBytes ≤ length answer → (n : ℕ)
+      → evaluateOf (guidsIn 16 guids) (wordsAt 16 versions 0) used expression ≡ refused n → evaluateCall expression guids versions used answer ≡ called n (answer ∷ [])
+  unfolding numberOf valuesOf answerStored
+  evaluate-refused g v long n e = sym (Dependency.evaluate-done expression guids versions used answer g v long (refused n) n answer (sym e) (refl, refl))
+
+-- ---- the table of installed firmware, as bytes: row i is the GUID in the bytes from 16 i on, and the version beside it the 32-bit number in those from 4 i on
+
+pub table-row : (guids : List ℕ) (i : ℕ) → i < 16 → getD (guidsIn 16 guids) i [] ≡ take 16 (drop (16 * i) guids)
+table-row = Tables.row-of 16
+
+pub table-version : (versions : List ℕ) (i : ℕ) → i < 16 → getD (wordsAt 16 versions 0) i 0 ≡ le 4 versions (4 * i)
+table-version versions i h = wordsAt-at 16 versions 0 i h ∙ ap (le 4 versions) (zero-add (4 * i))
 
 -- ---- the number tells: a refusal's is neither 0 nor 4, so that 0 is success and 4 is short
 
@@ -293,6 +329,18 @@ first-number = Numbers.first-number-of
 
 pub append-number : (mode : Mode) (room used sectionType m n : ℕ) → appendOf mode room used sectionType m ≡ refused n → IsRefusal n
 append-number = Numbers.append-number
+
+pub read-opcode-number : (s : List ℕ) (n : ℕ) → readOpcode s ≡ refused n → IsRefusal n
+read-opcode-number = Numbers.read-opcode-number
+
+pub write-opcode-number : (code : ℕ) (operand room : List ℕ) (n : ℕ) → writeOpcode code operand room .answer ≡ refused n → IsRefusal n
+write-opcode-number = Numbers.write-opcode-number
+
+pub validate-number : (s : List ℕ) (n : ℕ) → validateOf s ≡ refused n → IsRefusal n
+validate-number = Numbers.validate-number
+
+pub evaluate-number : (rows : List (List ℕ)) (versions : List ℕ) (used : ℕ) (s : List ℕ) (n : ℕ) → evaluateOf rows versions used s ≡ refused n → IsRefusal n
+evaluate-number = Numbers.evaluate-number
 
 -- ---- the answer's bytes
 

@@ -1,5 +1,6 @@
 pub mod Answer
 pub mod Called
+pub mod DependencyCalls
 pub mod JobCalls
 pub mod Packed
 pub mod SectionCalls

@@ -4,32 +4,26 @@ use mathlib.Core.Bool.{cond}
 use mathlib.Core.List.{List, [], _∷_}
 use lib.Dec.{eqb}
 use lib.ListN.{length}
-use Rattle.common.specs.Answers.{Answer, numberOf, valuesOf}
+use Rattle.common.specs.Answers.{numberOf, valuesOf}
 use Rattle.common.specs.Refusals.{firstRefusal, unlessRefused}
 use Rattle.sections.specs.Append.{appendOf, bufferAfter}
 use Rattle.sections.specs.Search.{searchOf, searchFirstOf}
 use Rattle.sections.specs.declared.header.Mode.{Mode}
 use Rattle.sections.specs.declared.header.Mode.the-variants.{Framework, Pi}
 use Rattle.fv.specs.Answer.{answerStored, fewAnswer}
-use Rattle.fv.specs.Called.{Called, called}
+use Rattle.fv.specs.Called.{Called, called, answerCall}
 
 -- "section mode 0 is Framework, any other PI"
 unfoldable pub modeOf : ℕ → Mode
 modeOf mode = cond (eqb mode 0) Framework Pi
 
--- a search's answer: the number, and first byte and end
-unfoldable pub foundCall : Answer → (answer : List ℕ) → Called
-foundCall found answer =
-    unlessRefused (λ n. called n (answer ∷ [])) (firstRefusal (fewAnswer answer ∷ []))
-    (called (numberOf found) (answerStored (valuesOf found) answer ∷ []))
-
--- the section search
+-- the section search: the number, and first byte and end
 abbrev pub searchCall : (mode : ℕ) → (stream : List ℕ) → (sectionType instance : ℕ) → (answer : List ℕ) → Called
-searchCall mode stream sectionType instance answer = foundCall (searchOf (modeOf mode) stream sectionType instance) answer
+searchCall mode stream sectionType instance answer = answerCall (searchOf (modeOf mode) stream sectionType instance) answer
 
 -- the search for the first of a type
 abbrev pub searchFirstCall : (mode : ℕ) → (stream : List ℕ) → (sectionType : ℕ) → (answer : List ℕ) → Called
-searchFirstCall mode stream sectionType answer = foundCall (searchFirstOf (modeOf mode) stream sectionType) answer
+searchFirstCall mode stream sectionType answer = answerCall (searchFirstOf (modeOf mode) stream sectionType) answer
 
 -- appending: the number, the buffer, and the new used count and 0
 unfoldable pub appendCall : (mode : ℕ) → (buffer : List ℕ) → (used sectionType : ℕ) → (body answer : List ℕ) → Called

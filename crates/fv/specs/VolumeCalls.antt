@@ -11,7 +11,7 @@ use Rattle.volume.specs.ExtendedEntry.{extEntry}
 use Rattle.block_service.specs.Erase.{listWords}
 use Rattle.block_service.specs.Service.{read, write, eraseBlocks, step}
 use Rattle.fv.specs.Answer.{answerStored, entryWords, fewAnswer}
-use Rattle.fv.specs.Called.{Called, called}
+use Rattle.fv.specs.Called.{Called, called, answerCall}
 use Rattle.fv.specs.Packed.{stateBytes, fewState, packed, unpacked}
 
 -- the state's bytes after opening: the state packed, and what lies behind it; a refusal leaves them
@@ -47,8 +47,5 @@ eraseCall state volume list =
     (called (numberOf (result .answer)) (result .volume ∷ []))
 
 -- an entry of an extended header (our call): the number, and its first byte, and its size and its type in one number
-unfoldable pub entryCall : (volume : List ℕ) → (number : ℕ) → (answer : List ℕ) → Called
-entryCall volume number answer =
-    let entry = entryWords (extEntry volume number) in
-    unlessRefused (λ n. called n (answer ∷ [])) (firstRefusal (fewAnswer answer ∷ []))
-    (called (numberOf entry) (answerStored (valuesOf entry) answer ∷ []))
+abbrev pub entryCall : (volume : List ℕ) → (number : ℕ) → (answer : List ℕ) → Called
+entryCall volume number answer = answerCall (entryWords (extEntry volume number)) answer

@@ -5,12 +5,17 @@ ghost use lib.ListN.{length};
 ghost use Rattle.common.specs.Answers.{refused, success, short};
 ghost use Rattle.volume.specs.ExtendedEntry.{entryAnswer};
 ghost use Rattle.block_service.specs.Service.{movedAnswer};
+ghost use Rattle.dependency.specs.Evaluation.{evaluatedAnswer};
+ghost use Rattle.dependency.specs.Opcodes.{readAnswer, writtenAnswer};
 ghost use Rattle.sections.specs.Append.{appendedAnswer};
 ghost use Rattle.sections.specs.Search.{foundAnswer};
 ghost use mathlib.Core.List.{[], _∷_};
 ghost use Rattle.fv.specs.Answer.{answerBytes, entryWords, Gives, outcomeStored, twoStored};
 use block_service::Moved;
 use bytes::copy;
+use dependency::Evaluated;
+use dependency::Read;
+use dependency::Written;
 use sections::append::Appended;
 use sections::search::Found;
 use volume::ExtEntry;
@@ -111,6 +116,41 @@ pub(crate) fn entry_outcome(entry: ExtEntry) -> Outcome
             entry_type,
         } => succeeded(first as u64, size as u64 + 65_536 * (entry_type as u64)),
         ExtEntry::Refused(number) => refusal(number),
+    }
+}
+
+// What is answered for an opcode that was read: the opcode, and the place after its operand.
+pub(crate) fn opcode_outcome(read: Read) -> Outcome
+    ensures { λ r. ⌜ Gives r (readAnswer read) ⌝ }
+{
+    match read {
+        Read::Opcode { opcode, after } => succeeded(opcode as u64, after as u64),
+        Read::Refused(number) => refusal(number),
+    }
+}
+
+// What is answered for an opcode that was written: how many bytes were stored.
+pub(crate) fn written_outcome(written: Written) -> Outcome
+    ensures { λ r. ⌜ Gives r (writtenAnswer written) ⌝ }
+{
+    match written {
+        Written::Success(count) => counted(count),
+        Written::Refused(number) => refusal(number),
+    }
+}
+
+// What an evaluation answers: 1 or 0.
+pub(crate) fn evaluated_outcome(evaluated: Evaluated) -> Outcome
+    ensures { λ r. ⌜ Gives r (evaluatedAnswer evaluated) ⌝ }
+{
+    match evaluated {
+        Evaluated::Truth(says) => {
+            if says {
+                return counted(1);
+            }
+            counted(0)
+        }
+        Evaluated::Refused(number) => refusal(number),
     }
 }
 

@@ -56,8 +56,8 @@ fn state_in(s: &[u8]) -> State
     }
 }
 
-// The GUID, bytes 0 to 15.
-fn guid_in(s: &[u8]) -> [u8; 16]
+// The GUID in bytes 0 to 15.
+pub(crate) fn guid_in(s: &[u8]) -> [u8; 16]
     requires { ⌜ 16 ≤ length (now s) ⌝ }
     ensures { λ r. ⌜ r ≡ take 16 (now (s .entry)) ⌝ }
 {

@@ -1,3 +1,4 @@
+pub mod Dependencies
 pub mod Editions
 pub mod Instances
 pub mod Jobs

@@ -1,17 +1,18 @@
 -- Laws of the answer's bytes: the stores that make them, the outcome of an answer, and the test of their number.
 use Prim.Native.Nat.{ℕ, _≤_, _<_}
 use mathlib.Core.Path.{_≡_, _∙_}
-use mathlib.Core.List.{List, _∷_, _++_}
-use mathlib.Core.Option.{Option, some}
+use mathlib.Core.List.{List, [], _∷_, _++_}
+use mathlib.Core.Option.{Option, none, some}
 use borrow.Author.Tests.{lt-ltb, le-ltb}
 use lib.Dec.{ltb}
 use lib.ListN.{length, take, drop, replicate}
 use lib.Seq.{sets}
 use Rattle.common.specs.Answers.{Answer, numberOf, valuesOf}
 use Rattle.common.specs.Refusals.{Row, row, firstRefusal}
-use Rattle.common.proofs.Refusals.{row-applies, row-passes}
+use Rattle.common.proofs.Refusals.{row-applies, row-passes, no-row}
 use Rattle.numbers.specs.LittleEndian.{leBytes}
-use Rattle.fv.specs.Answer.{answerStored, Gives, outcomeStored, twoStored}
+use Rattle.fv.specs.Answer.{answerBytes, answerStored, Gives, outcomeStored, twoStored}
+use Rattle.fv.specs.Called.{called, answerCall}
 use Rattle.fv.specs.declared.answer.Outcome.{Outcome}
 
 -- two numbers in 16 bytes, copied to the front of the room
@@ -31,3 +32,15 @@ few n k rest h = row-applies (ltb n k) 5 rest (lt-ltb n k h)
 
 pub enough : (n k : ℕ) (rest : List Row) (o : Option ℕ) → k ≤ n → firstRefusal rest ≡ o → firstRefusal (row (ltb n k) 5 ∷ rest) ≡ o
 enough n k rest o h e = row-passes (ltb n k) 5 rest o (le-ltb n k h) e
+
+-- ---- a call that may store in nothing but the answer's bytes
+
+module _ (inner : Answer) (answer : List ℕ) where
+  pub answer-few : length answer < answerBytes → called 5 (answer ∷ []) ≡ answerCall inner answer
+  unfolding answerCall
+  answer-few h = rw (few (length answer) answerBytes [] h)
+
+  pub answer-done : answerBytes ≤ length answer → (a : Answer) (number : ℕ) (after : List ℕ) → a ≡ inner
+      → (number ≡ numberOf a) × (after ≡ answerStored (valuesOf a) answer) → called number (after ∷ []) ≡ answerCall inner answer
+  unfolding answerCall
+  answer-done room a number after is e = rw (enough (length answer) answerBytes [] none room no-row, ← is, e .0, e .1)

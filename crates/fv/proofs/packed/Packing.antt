@@ -53,7 +53,7 @@ pack-done st r s room after l g m e f =
 le-front : (n k : ℕ) (s : List ℕ) (at : ℕ) → at + n ≤ k → le n (take k s) at ≡ le n s at
 le-front n k s at h = le-same n (take k s) s at (λ i p q. getD-take k s i 0 (omega arith))
 
-words-front : (w k : ℕ) (s : List ℕ) (at : ℕ) → at + 4 * w ≤ k → wordsAt w (take k s) at ≡ wordsAt w s at
+pub words-front : (w k : ℕ) (s : List ℕ) (at : ℕ) → at + 4 * w ≤ k → wordsAt w (take k s) at ≡ wordsAt w s at
 unfolding wordsAt
 words-front zero k s at h = refl
 words-front (suc w) k s at h = ap₂ (λ (x : ℕ) (l : List ℕ). x ∷ l) (le-front 4 k s at (omega arith)) (words-front w k s (at + 4) (omega arith))

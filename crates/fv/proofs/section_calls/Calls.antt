@@ -1,4 +1,4 @@
--- Laws of the calls on section streams, in the form in which the code meets them: bytes too few, and otherwise what the inner call came to.
+-- Laws of appending from C, in the form in which the code meets them: bytes too few, and otherwise what the inner call came to.
 use Prim.Native.Nat.{ℕ, _≤_, _<_}
 use mathlib.Core.Path.{_≡_}
 use mathlib.Core.List.{List, [], _∷_}
@@ -9,22 +9,8 @@ use Rattle.common.proofs.Refusals.{no-row}
 use Rattle.sections.specs.Append.{appendOf, bufferAfter}
 use Rattle.fv.specs.Answer.{answerBytes, answerStored}
 use Rattle.fv.specs.Called.{called}
-use Rattle.fv.specs.SectionCalls.{foundCall, appendCall, modeOf}
+use Rattle.fv.specs.SectionCalls.{appendCall, modeOf}
 use Rattle.fv.proofs.answer.Answers.{few, enough}
-
--- ---- searching
-
-module _ (found : Answer) (answer : List ℕ) where
-  pub found-few : length answer < answerBytes → called 5 (answer ∷ []) ≡ foundCall found answer
-  unfolding foundCall
-  found-few h = rw (few (length answer) answerBytes [] h)
-
-  pub found-done : answerBytes ≤ length answer → (a : Answer) (number : ℕ) (after : List ℕ) → a ≡ found
-      → (number ≡ numberOf a) × (after ≡ answerStored (valuesOf a) answer) → called number (after ∷ []) ≡ foundCall found answer
-  unfolding foundCall
-  found-done room a number after is e = rw (enough (length answer) answerBytes [] none room no-row, ← is, e .0, e .1)
-
--- ---- appending
 
 module _ (mode : ℕ) (buffer : List ℕ) (used sectionType : ℕ) (body answer : List ℕ) where
   pub append-few : length answer < answerBytes → called 5 (buffer ∷ answer ∷ []) ≡ appendCall mode buffer used sectionType body answer

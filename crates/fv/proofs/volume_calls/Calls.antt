@@ -16,7 +16,7 @@ use Rattle.block_service.specs.declared.service.Erased as Erased
 use Rattle.fv.specs.Answer.{answerBytes, answerStored, entryWords}
 use Rattle.fv.specs.Called.{called}
 use Rattle.fv.specs.Packed.{packed, unpacked, stateBytes}
-use Rattle.fv.specs.VolumeCalls.{openCall, readCall, writeCall, eraseCall, entryCall, stateAfter}
+use Rattle.fv.specs.VolumeCalls.{openCall, readCall, writeCall, eraseCall, stateAfter}
 use Rattle.fv.proofs.answer.Answers.{few, enough}
 
 -- ---- opening
@@ -90,15 +90,3 @@ module _ (state volume list : List ℕ) where
     pub erase-refused : (n : ℕ) → erased ≡ Erased.the-variants.Refused n → called n (volume′ ∷ []) ≡ eraseCall state volume list
     unfolding eraseCall erasedAnswer numberOf
     erase-refused n e = rw (enough (length state) stateBytes [] none long no-row, ← is, e)
-
--- ---- the entries of an extended header
-
-module _ (volume : List ℕ) (number : ℕ) (answer : List ℕ) where
-  pub entry-few : length answer < answerBytes → called 5 (answer ∷ []) ≡ entryCall volume number answer
-  unfolding entryCall
-  entry-few h = rw (few (length answer) answerBytes [] h)
-
-  pub entry-done : answerBytes ≤ length answer → (a : Answer) (n : ℕ) (after : List ℕ) → a ≡ extEntry volume number
-      → (n ≡ numberOf (entryWords a)) × (after ≡ answerStored (valuesOf (entryWords a)) answer) → called n (after ∷ []) ≡ entryCall volume number answer
-  unfolding entryCall
-  entry-done room a n after is e = rw (enough (length answer) answerBytes [] none room no-row, ← is, e .0, e .1)

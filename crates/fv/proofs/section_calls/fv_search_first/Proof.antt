@@ -1,12 +1,11 @@
 -- `fv::section_calls::fv_search_first` meets its contract.
-use Rattle.fv.proofs.section_calls.Calls.{found-few, found-done}
-use Rattle.fv.proofs.answer.Answers.{given}
+use Rattle.fv.proofs.answer.Answers.{answer-few, answer-done, given}
 use borrow.Author.Needs.{needs}
 use Rattle.fv.proofs.section_calls.fv_search_first.Statement.{statement}
 use Rattle.fv.proofs.section_calls.fv_search_first.Tie as tie
 
 returns : tie.Need-returns
-returns c = found-few _ _ (search needs)
+returns c = answer-few _ _ (search needs)
 
 mode-of-requires : tie.Need-mode-of-requires
 mode-of-requires c κs = search needs
@@ -28,7 +27,7 @@ returns-2 c =
     let gave = c .before .before in
     let told = gave .before .before in
     let sought = told .before in
-    found-done _ _ (search needs) _ _ _ (rw (sought .before .mode-of .ensures) at (sought .search-first .ensures))
+    answer-done _ _ (search needs) _ _ _ (rw (sought .before .mode-of .ensures) at (sought .search-first .ensures))
     (given (told .found-outcome .result) _ _ _ _ (told .found-outcome .ensures) (gave .give .ensures))
 
 pub fv-search-first-spec : {M : Type 1} → statement M
