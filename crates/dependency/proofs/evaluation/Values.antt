@@ -218,7 +218,7 @@ put-cells leaves k n base x ks values e b h =
     rw (e, at, cells-kept (drop n ks) values base x (omega arith), cells-drop n ks values)
 
 -- any other opcode leaves one value, above what it takes
-abbrev Pushes : Effect → Type 0
+abbrev pub Pushes : Effect → Type 0
 Pushes PushesVersion = Unit {0}
 Pushes PushesTruth = Unit {0}
 Pushes NegatesTruth = Unit {0}

@@ -1,14 +1,55 @@
 -- `step` meets its contract: each effect by what it takes and pushes.
-use Prim.Native.Nat.{_-_}
-use mathlib.Core.Path.{refl}
+use Prim.Native.Nat.{ℕ, _+_, _-_, _≤_, _<_}
+use mathlib.Core.Path.{_≡_, refl}
+use mathlib.Core.List.{List}
 use native.Mathlib.Omega.{arith}
 use borrow.Author.Needs.{needs}
 use denote.Ref.{now}
-use Rattle.dependency.specs.Stack.{Coded, Operates}
+use lib.ListN.{length, getD, set}
+use Rattle.dependency.specs.Stack.{Coded, takesOf, Valued, Operates, Stepped}
+use Rattle.dependency.specs.declared.opcodes.Effect.{Effect}
 use Rattle.dependency.specs.declared.opcodes.Effect.the-variants.{PushesVersion, PushesTruth, NegatesTruth, JoinsTruths, ComparesVersions, LeavesStack}
-use Rattle.dependency.proofs.evaluation.Values.{coded-at, deep-enough, base-below, stepped-leave, stepped-none, stepped-one, stepped-two, version-left, truth-left, not-left}
+use Rattle.dependency.proofs.evaluation.Values.{Pushes, coded-at, deep-enough, base-below, stepped-leave, stepped-none, stepped-one, stepped-two, version-left, truth-left, not-left}
 use Rattle.dependency.proofs.evaluation.step.Statement.{statement}
 use Rattle.dependency.proofs.evaluation.step.Tie as tie
+
+-- where the effect was found: how deep the stack is, and where a value goes
+module _ (c : tie.After-effect-of) (x : Effect) (is : c .effect-of .result ≡ x) where
+  abbrev start : tie.Start
+  start = c .before
+
+  abbrev opcode : ℕ
+  opcode = start .args .opcode
+
+  abbrev version : ℕ
+  version = start .args .version
+
+  abbrev depth : ℕ
+  depth = start .args .depth
+
+  abbrev values : List ℕ
+  values = now (start .args .values)
+
+  coded : Coded x opcode
+  coded = coded-at (c .effect-of .result) x opcode is (c .effect-of .ensures)
+
+  deep : length (takesOf x) ≤ depth
+  deep = deep-enough opcode version depth (start .pre .0) x coded
+
+  module _ (p : Pushes x) (base : ℕ) (e : base + length (takesOf x) ≡ depth) where
+    room : (base < 32) × (length values ≡ 32)
+    room = (base-below opcode version depth (start .pre .0) x coded p base e, start .pre .1)
+
+    module _ (y r : ℕ) (out : List ℕ) (pushed : (r ≡ base + 1) × (out ≡ set values base y)) where
+      takes-none : ((l m : ℕ) → Valued opcode version l m y) → Stepped opcode version depth values out r
+      takes-none = stepped-none opcode version depth (start .pre .0) x coded p base e values (start .pre .1) y r out pushed
+
+      takes-one : (l : ℕ) → 0 < depth → l ≡ getD values (depth - 1) 0 → ((m : ℕ) → Valued opcode version l m y) → Stepped opcode version depth values out r
+      takes-one = stepped-one opcode version depth (start .pre .0) x coded p base e values (start .pre .1) y r out pushed
+
+      takes-two : (l m : ℕ) → 1 < depth → l ≡ getD values (depth - 1) 0 → m ≡ getD values (depth - 2) 0 → Operates opcode l m y → Stepped opcode version depth values out r
+      unfolding Operates
+      takes-two l m h a b o = stepped-two opcode version depth (start .pre .0) x coded p base e values (start .pre .1) y r out pushed l m h a b (o version)
 
 effect-of-requires : tie.Need-effect-of-requires
 effect-of-requires c κs = search needs
@@ -17,12 +58,7 @@ enum-told : tie.Need-enum-told
 enum-told c = search needs
 
 push-requires : tie.Need-push-requires
-push-requires c κs =
-    let found = c .before .before .before in
-    let start = found .before in
-    let a = start .args in
-    let coded = coded-at (found .effect-of .result) PushesVersion (a .opcode) (search needs) (found .effect-of .ensures) in
-    (base-below (a .opcode) (a .version) (a .depth) (start .pre .0) PushesVersion coded tt (a .depth) (omega arith), start .pre .1)
+push-requires c κs = let found = c .before .before .before in room found PushesVersion (search needs) tt (depth found PushesVersion (search needs)) (omega arith)
 
 enum-told-2 : tie.Need-enum-told-2
 enum-told-2 c = search needs
@@ -31,24 +67,13 @@ bit-requires : tie.Need-bit-requires
 bit-requires c κs = search needs
 
 push-requires-2 : tie.Need-push-requires-2
-push-requires-2 c κs =
-    let found = c .before .before .before .before in
-    let start = found .before in
-    let a = start .args in
-    let coded = coded-at (found .effect-of .result) PushesTruth (a .opcode) (search needs) (found .effect-of .ensures) in
-    (base-below (a .opcode) (a .version) (a .depth) (start .pre .0) PushesTruth coded tt (a .depth) (omega arith), start .pre .1)
+push-requires-2 c κs = let found = c .before .before .before .before in room found PushesTruth (search needs) tt (depth found PushesTruth (search needs)) (omega arith)
 
 enum-told-3 : tie.Need-enum-told-3
 enum-told-3 c = search needs
 
 sub-top : tie.Need-sub-top
-sub-top c =
-    let found = c .before .before in
-    let start = found .before in
-    let a = start .args in
-    let coded = coded-at (found .effect-of .result) NegatesTruth (a .opcode) (search needs) (found .effect-of .ensures) in
-    let deep = deep-enough (a .opcode) (a .version) (a .depth) (start .pre .0) NegatesTruth coded in
-    omega arith
+sub-top c = let h = deep (c .before .before) NegatesTruth (search needs) in omega arith
 
 mul-top : tie.Need-mul-top
 mul-top c = search needs
@@ -60,13 +85,7 @@ bit-requires-2 : tie.Need-bit-requires-2
 bit-requires-2 c κs = search needs
 
 sub-push : tie.Need-sub-push
-sub-push c =
-    let found = c .before .before .before .before .before in
-    let start = found .before in
-    let a = start .args in
-    let coded = coded-at (found .effect-of .result) NegatesTruth (a .opcode) (search needs) (found .effect-of .ensures) in
-    let deep = deep-enough (a .opcode) (a .version) (a .depth) (start .pre .0) NegatesTruth coded in
-    omega arith
+sub-push c = let h = deep (c .before .before .before .before .before) NegatesTruth (search needs) in omega arith
 
 push-requires-3 : tie.Need-push-requires-3
 push-requires-3 c κs = search needs
@@ -75,13 +94,7 @@ enum-told-4 : tie.Need-enum-told-4
 enum-told-4 c = search needs
 
 sub-left : tie.Need-sub-left
-sub-left c =
-    let found = c .before .before in
-    let start = found .before in
-    let a = start .args in
-    let coded = coded-at (found .effect-of .result) JoinsTruths (a .opcode) (search needs) (found .effect-of .ensures) in
-    let deep = deep-enough (a .opcode) (a .version) (a .depth) (start .pre .0) JoinsTruths coded in
-    omega arith
+sub-left c = let h = deep (c .before .before) JoinsTruths (search needs) in omega arith
 
 mul-left : tie.Need-mul-left
 mul-left c = search needs
@@ -90,13 +103,7 @@ element-copy-out-left : tie.Need-element-copy-out-left
 element-copy-out-left c = search needs
 
 sub-right : tie.Need-sub-right
-sub-right c =
-    let found = c .before .before .before in
-    let start = found .before in
-    let a = start .args in
-    let coded = coded-at (found .effect-of .result) JoinsTruths (a .opcode) (search needs) (found .effect-of .ensures) in
-    let deep = deep-enough (a .opcode) (a .version) (a .depth) (start .pre .0) JoinsTruths coded in
-    omega arith
+sub-right c = let h = deep (c .before .before .before) JoinsTruths (search needs) in omega arith
 
 mul-right : tie.Need-mul-right
 mul-right c = search needs
@@ -105,21 +112,10 @@ element-copy-out-right : tie.Need-element-copy-out-right
 element-copy-out-right c = search needs
 
 joined-requires : tie.Need-joined-requires
-joined-requires c κs =
-    let found = c .before .before .before .before in
-    let start = found .before in
-    let a = start .args in
-    let coded = coded-at (found .effect-of .result) JoinsTruths (a .opcode) (search needs) (found .effect-of .ensures) in
-    coded
+joined-requires c κs = coded (c .before .before .before .before) JoinsTruths (search needs)
 
 sub-push-2 : tie.Need-sub-push-2
-sub-push-2 c =
-    let found = c .before .before .before .before .before .before in
-    let start = found .before in
-    let a = start .args in
-    let coded = coded-at (found .effect-of .result) JoinsTruths (a .opcode) (search needs) (found .effect-of .ensures) in
-    let deep = deep-enough (a .opcode) (a .version) (a .depth) (start .pre .0) JoinsTruths coded in
-    omega arith
+sub-push-2 c = let h = deep (c .before .before .before .before .before .before) JoinsTruths (search needs) in omega arith
 
 push-requires-4 : tie.Need-push-requires-4
 push-requires-4 c κs = search needs
@@ -128,13 +124,7 @@ enum-told-5 : tie.Need-enum-told-5
 enum-told-5 c = search needs
 
 sub-left-2 : tie.Need-sub-left-2
-sub-left-2 c =
-    let found = c .before .before in
-    let start = found .before in
-    let a = start .args in
-    let coded = coded-at (found .effect-of .result) ComparesVersions (a .opcode) (search needs) (found .effect-of .ensures) in
-    let deep = deep-enough (a .opcode) (a .version) (a .depth) (start .pre .0) ComparesVersions coded in
-    omega arith
+sub-left-2 c = let h = deep (c .before .before) ComparesVersions (search needs) in omega arith
 
 mul-left-2 : tie.Need-mul-left-2
 mul-left-2 c = search needs
@@ -143,13 +133,7 @@ element-copy-out-left-2 : tie.Need-element-copy-out-left-2
 element-copy-out-left-2 c = search needs
 
 sub-right-2 : tie.Need-sub-right-2
-sub-right-2 c =
-    let found = c .before .before .before in
-    let start = found .before in
-    let a = start .args in
-    let coded = coded-at (found .effect-of .result) ComparesVersions (a .opcode) (search needs) (found .effect-of .ensures) in
-    let deep = deep-enough (a .opcode) (a .version) (a .depth) (start .pre .0) ComparesVersions coded in
-    omega arith
+sub-right-2 c = let h = deep (c .before .before .before) ComparesVersions (search needs) in omega arith
 
 mul-right-2 : tie.Need-mul-right-2
 mul-right-2 c = search needs
@@ -158,21 +142,10 @@ element-copy-out-right-2 : tie.Need-element-copy-out-right-2
 element-copy-out-right-2 c = search needs
 
 compared-requires : tie.Need-compared-requires
-compared-requires c κs =
-    let found = c .before .before .before .before in
-    let start = found .before in
-    let a = start .args in
-    let coded = coded-at (found .effect-of .result) ComparesVersions (a .opcode) (search needs) (found .effect-of .ensures) in
-    coded
+compared-requires c κs = coded (c .before .before .before .before) ComparesVersions (search needs)
 
 sub-push-3 : tie.Need-sub-push-3
-sub-push-3 c =
-    let found = c .before .before .before .before .before .before in
-    let start = found .before in
-    let a = start .args in
-    let coded = coded-at (found .effect-of .result) ComparesVersions (a .opcode) (search needs) (found .effect-of .ensures) in
-    let deep = deep-enough (a .opcode) (a .version) (a .depth) (start .pre .0) ComparesVersions coded in
-    omega arith
+sub-push-3 c = let h = deep (c .before .before .before .before .before .before) ComparesVersions (search needs) in omega arith
 
 push-requires-5 : tie.Need-push-requires-5
 push-requires-5 c κs = search needs
@@ -184,57 +157,36 @@ returns : tie.Need-returns
 unfolding Coded
 returns c =
     let found = c .before .before .before .before in
-    let start = found .before in
-    let a = start .args in
-    let coded = coded-at (found .effect-of .result) PushesVersion (a .opcode) (search needs) (found .effect-of .ensures) in
-    stepped-none (a .opcode) (a .version) (a .depth) (start .pre .0) PushesVersion coded tt (a .depth) (omega arith) (now (a .values)) (start .pre .1) _ _ _ (c .push .ensures) (λ l m. version-left (a .opcode) (a .version) l m _ (omega arith) refl)
+    takes-none found PushesVersion (search needs) tt _ (omega arith) _ _ _ (c .push .ensures) (λ l m. version-left _ _ l m _ (let h = coded found PushesVersion (search needs) in omega arith) refl)
 
 returns-2 : tie.Need-returns-2
 unfolding Coded
 returns-2 c =
     let found = c .before .before .before .before .before in
-    let start = found .before in
-    let a = start .args in
-    let coded = coded-at (found .effect-of .result) PushesTruth (a .opcode) (search needs) (found .effect-of .ensures) in
-    stepped-none (a .opcode) (a .version) (a .depth) (start .pre .0) PushesTruth coded tt (a .depth) (omega arith) (now (a .values)) (start .pre .1) _ _ _ (c .push2 .ensures) (λ l m. truth-left (a .opcode) (a .version) l m _ (coded .0) (coded .1) (c .before .before .bit .ensures))
+    let h = coded found PushesTruth (search needs) in
+    takes-none found PushesTruth (search needs) tt _ (omega arith) _ _ _ (c .push2 .ensures) (λ l m. truth-left _ _ l m _ (h .0) (h .1) (c .before .before .bit .ensures))
 
 returns-3 : tie.Need-returns-3
 unfolding Coded
 returns-3 c =
     let found = c .before .before .before .before .before .before in
-    let start = found .before in
-    let a = start .args in
-    let coded = coded-at (found .effect-of .result) NegatesTruth (a .opcode) (search needs) (found .effect-of .ensures) in
-    let deep = deep-enough (a .opcode) (a .version) (a .depth) (start .pre .0) NegatesTruth coded in
-    stepped-one (a .opcode) (a .version) (a .depth) (start .pre .0) NegatesTruth coded tt (a .depth - 1) (omega arith) (now (a .values)) (start .pre .1) _ _ _ (c .push3 .ensures) _ (omega arith) refl (λ m. not-left (a .opcode) (a .version) _ m _ coded (c .before .before .bit2 .ensures))
+    let h = deep found NegatesTruth (search needs) in
+    takes-one found NegatesTruth (search needs) tt _ (omega arith) _ _ _ (c .push3 .ensures) _ (omega arith) refl (λ m. not-left _ _ _ m _ (coded found NegatesTruth (search needs)) (c .before .before .bit2 .ensures))
 
 returns-4 : tie.Need-returns-4
-unfolding Operates
 returns-4 c =
     let found = c .before .before .before .before .before .before .before in
-    let start = found .before in
-    let a = start .args in
-    let coded = coded-at (found .effect-of .result) JoinsTruths (a .opcode) (search needs) (found .effect-of .ensures) in
-    let deep = deep-enough (a .opcode) (a .version) (a .depth) (start .pre .0) JoinsTruths coded in
-    stepped-two (a .opcode) (a .version) (a .depth) (start .pre .0) JoinsTruths coded tt (a .depth - 2) (omega arith) (now (a .values)) (start .pre .1) _ _ _ (c .push4 .ensures) _ _ (omega arith) refl refl (c .before .before .joined .ensures (a .version))
+    let h = deep found JoinsTruths (search needs) in
+    takes-two found JoinsTruths (search needs) tt _ (omega arith) _ _ _ (c .push4 .ensures) _ _ (omega arith) refl refl (c .before .before .joined .ensures)
 
 returns-5 : tie.Need-returns-5
-unfolding Operates
 returns-5 c =
     let found = c .before .before .before .before .before .before .before in
-    let start = found .before in
-    let a = start .args in
-    let coded = coded-at (found .effect-of .result) ComparesVersions (a .opcode) (search needs) (found .effect-of .ensures) in
-    let deep = deep-enough (a .opcode) (a .version) (a .depth) (start .pre .0) ComparesVersions coded in
-    stepped-two (a .opcode) (a .version) (a .depth) (start .pre .0) ComparesVersions coded tt (a .depth - 2) (omega arith) (now (a .values)) (start .pre .1) _ _ _ (c .push5 .ensures) _ _ (omega arith) refl refl (c .before .before .compared .ensures (a .version))
+    let h = deep found ComparesVersions (search needs) in
+    takes-two found ComparesVersions (search needs) tt _ (omega arith) _ _ _ (c .push5 .ensures) _ _ (omega arith) refl refl (c .before .before .compared .ensures)
 
 returns-6 : tie.Need-returns-6
-returns-6 c =
-    let found = c .before .before in
-    let start = found .before in
-    let a = start .args in
-    let coded = coded-at (found .effect-of .result) LeavesStack (a .opcode) (search needs) (found .effect-of .ensures) in
-    stepped-leave (a .opcode) (a .version) (a .depth) (now (a .values)) (start .pre .0) coded
+returns-6 c = let found = c .before .before in stepped-leave _ _ _ _ (start found LeavesStack (search needs) .pre .0) (coded found LeavesStack (search needs))
 
 pub step-spec : {M : Type 1} → statement M
 step-spec =

@@ -1,15 +1,21 @@
 -- `validate` meets its contract: what the test says of the bytes from here on, at the kinds held, is what it says of the whole.
-use Prim.Native.Nat.{_-_, _≤_}
+use Prim.Native.Nat.{ℕ, _+_, _-_, _≤_}
 use mathlib.Core.Path.{_≡_, refl}
-use mathlib.Core.List.{[]}
+use mathlib.Core.List.{List, []}
 use native.Mathlib.Omega.{arith}
 use borrow.Author.Needs.{needs}
 use denote.Ref.{now}
 use lib.Dec.{lit<, lit≤}
 use lib.ListN.{length, drop}
+use Rattle.common.specs.Answers.{Answer, refused}
+use Rattle.dependency.specs.Opcodes.{endCode}
 use Rattle.dependency.specs.Expression.{reading}
-use Rattle.dependency.specs.Validation.{faultFrom}
-use Rattle.dependency.specs.Stack.{kindsOf, Held}
+use Rattle.dependency.specs.Validation.{faultFrom, validateOf}
+use Rattle.dependency.specs.Stack.{Coded, takesOf, leavesOf, endedOf, kindsOf, Held, Follows}
+use Rattle.dependency.specs.declared.opcodes.Read.the-variants.{Opcode}
+use Rattle.dependency.specs.declared.opcodes.Effect.{Effect}
+use Rattle.dependency.specs.declared.validation.Next.{Next}
+use Rattle.dependency.specs.declared.validation.Next.the-variants.{Refused, Kinds}
 use Rattle.dependency.proofs.opcodes.Single.{tail-is}
 use Rattle.dependency.proofs.validation.Turns.{validate-out, validate-refused, validate-within, validate-ended, validate-stack, validate-next}
 use Rattle.dependency.proofs.validation.validate.Statement.{statement}
@@ -24,6 +30,48 @@ abbrev μ-loop : tie.MeasureT-loop
 loop-holds : tie.Need-loop-holds Inv-loop μ-loop
 unfolding kindsOf
 loop-holds c = (search needs, record { within = lit≤ tt; small = lit< tt }, refl)
+
+-- where an opcode was read: the laws of a turn, at what the loop holds
+module _ (c : tie.After-read Inv-loop μ-loop) where
+  abbrev called : tie.After-read-opcode Inv-loop μ-loop
+  called = c .before .before
+
+  abbrev s : List ℕ
+  s = now (called .before .before .before .before .before .args .expression)
+
+  abbrev at : ℕ
+  at = called .before .before .before .loop .at
+
+  abbrev depth : ℕ
+  depth = called .before .before .before .loop .depth
+
+  abbrev kinds : ℕ
+  kinds = called .before .before .before .loop .kinds
+
+  abbrev opcode : ℕ
+  opcode = c .read .given .0 .0
+
+  abbrev place : ℕ
+  place = c .read .given .0 .1 .0
+
+  same : faultFrom (reading (drop at s)) (kindsOf depth kinds) ≡ faultFrom (reading s) []
+  same = called .before .before .before .loop .inv .2
+
+  read : called .read-opcode .result ≡ Opcode opcode place
+  read = search needs
+
+  within : (1 ≤ place) × (place ≤ length s - at)
+  within = validate-within s at depth kinds same _ (tail-is s at) (called .read-opcode .result) (called .read-opcode .ensures) opcode place read
+
+  ends : (t : Answer) → opcode ≡ endCode → t ≡ endedOf (kindsOf depth kinds) → t ≡ validateOf s
+  ends = validate-ended s at depth kinds same _ (tail-is s at) (called .read-opcode .result) (called .read-opcode .ensures) opcode place read
+
+  module _ (h : opcode ≡ endCode → ⊥) (f : Effect) (coded : Coded f opcode) (nx : Next) (follows : Follows nx (takesOf f) (leavesOf f) (kindsOf depth kinds)) where
+    refuses : (n : ℕ) → nx ≡ Refused n → refused n ≡ validateOf s
+    refuses = validate-stack s at depth kinds same _ (tail-is s at) (called .read-opcode .result) (called .read-opcode .ensures) opcode place read h f coded nx follows
+
+    goes-on : (b d : ℕ) → nx ≡ Kinds b d → (faultFrom (reading (drop (at + place) s)) (kindsOf d b) ≡ faultFrom (reading s) []) × Held d b
+    goes-on = validate-next s at depth kinds same _ (tail-is s at) (called .read-opcode .result) (called .read-opcode .ensures) opcode place read h f coded nx follows
 
 sub-rest : tie.Need-sub-rest Inv-loop μ-loop
 sub-rest c = search needs
@@ -44,13 +92,7 @@ ended-requires : tie.Need-ended-requires Inv-loop μ-loop
 ended-requires c κs = search needs
 
 returns : tie.Need-returns Inv-loop μ-loop
-returns c =
-    let known = c .before .before .before in
-    let called = known .before .before in
-    let l = called .before .before .before .loop in
-    let s = now (called .before .before .before .before .before .args .expression) in
-    let read = known .read .given .0 in
-    validate-ended s (l .at) (l .depth) (l .kinds) (l .inv .2) _ (tail-is s (l .at)) (called .read-opcode .result) (called .read-opcode .ensures) (read .0) (read .1 .0) (search needs) _ (search needs) (c .ended .ensures)
+returns c = ends (c .before .before .before) _ (search needs) (c .ended .ensures)
 
 effect-of-requires : tie.Need-effect-of-requires Inv-loop μ-loop
 effect-of-requires c κs = search needs
@@ -62,39 +104,19 @@ enum-known-next : tie.Need-enum-known-next Inv-loop μ-loop
 enum-known-next c = search needs
 
 add-at : tie.Need-add-at Inv-loop μ-loop
-add-at c =
-    let followed = c .before .before .before in
-    let known = followed .before .before .before .before in
-    let called = known .before .before in
-    let l = called .before .before .before .loop in
-    let s = now (called .before .before .before .before .before .args .expression) in
-    let read = known .read .given .0 in
-    omega (arith, validate-within s (l .at) (l .depth) (l .kinds) (l .inv .2) _ (tail-is s (l .at)) (called .read-opcode .result) (called .read-opcode .ensures) (read .0) (read .1 .0) (search needs))
+add-at c = let w = within (c .before .before .before .before .before .before .before) in omega arith
 
 loop-less : tie.Need-loop-less Inv-loop μ-loop
-loop-less c =
-    let followed = c .before .before .before in
-    let known = followed .before .before .before .before in
-    let called = known .before .before in
-    let l = called .before .before .before .loop in
-    let s = now (called .before .before .before .before .before .args .expression) in
-    let read = known .read .given .0 in
-    omega (arith, validate-within s (l .at) (l .depth) (l .kinds) (l .inv .2) _ (tail-is s (l .at)) (called .read-opcode .result) (called .read-opcode .ensures) (read .0) (read .1 .0) (search needs))
+loop-less c = let w = within (c .before .before .before .before .before .before .before) in omega arith
 
 loop-again : tie.Need-loop-again Inv-loop μ-loop
 loop-again c =
     let followed = c .before .before .before in
     let known = followed .before .before .before .before in
-    let called = known .before .before in
-    let l = called .before .before .before .loop in
-    let s = now (called .before .before .before .before .before .args .expression) in
-    let read = known .read .given .0 in
-    let kinds = c .before .next .given .0 in
-    let within = validate-within s (l .at) (l .depth) (l .kinds) (l .inv .2) _ (tail-is s (l .at)) (called .read-opcode .result) (called .read-opcode .ensures) (read .0) (read .1 .0) (search needs) in
-    let turned =
-    validate-next s (l .at) (l .depth) (l .kinds) (l .inv .2) _ (tail-is s (l .at)) (called .read-opcode .result) (called .read-opcode .ensures) (read .0) (read .1 .0) (search needs) (search needs)
-    (followed .before .effect-of .result) (followed .before .effect-of .ensures) _ (followed .follow .ensures) (kinds .0) (kinds .1 .0) (search needs)
-    in
+    let w = within known in
+    let effect = followed .before .effect-of in
+    let next = c .before .next .given .0 in
+    let turned = goes-on known (search needs) (effect .result) (effect .ensures) _ (followed .follow .ensures) (next .0) (next .1 .0) (search needs) in
     (omega arith, turned .1, turned .0)
 
 enum-known-next-2 : tie.Need-enum-known-next-2 Inv-loop μ-loop
@@ -103,13 +125,8 @@ enum-known-next-2 c = search needs
 returns-2 : tie.Need-returns-2 Inv-loop μ-loop
 returns-2 c =
     let followed = c .before .before .before in
-    let known = followed .before .before .before .before in
-    let called = known .before .before in
-    let l = called .before .before .before .loop in
-    let s = now (called .before .before .before .before .before .args .expression) in
-    let read = known .read .given .0 in
-    validate-stack s (l .at) (l .depth) (l .kinds) (l .inv .2) _ (tail-is s (l .at)) (called .read-opcode .result) (called .read-opcode .ensures) (read .0) (read .1 .0) (search needs) (search needs)
-    (followed .before .effect-of .result) (followed .before .effect-of .ensures) _ (followed .follow .ensures) _ (search needs)
+    let effect = followed .before .effect-of in
+    refuses (followed .before .before .before .before) (search needs) (effect .result) (effect .ensures) _ (followed .follow .ensures) _ (search needs)
 
 enum-known-read-2 : tie.Need-enum-known-read-2 Inv-loop μ-loop
 enum-known-read-2 c = search needs
