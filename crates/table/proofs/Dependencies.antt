@@ -3,7 +3,7 @@
 use Prim.Native.Nat.{ℕ}
 use mathlib.Core.Path.{_≡_, refl}
 use mathlib.Core.List.{List, [], _∷_, _++_}
-use lib.ListN.{length, replicate}
+use lib.ListN.{replicate}
 use Rattle.numbers.specs.LittleEndian.{le}
 use Rattle.common.specs.Answers.{Answer, refused, success}
 use Rattle.common.specs.Refusals.{firstRefusal}

@@ -1,20 +1,20 @@
 -- The GUIDs of an expression: where one is in no used row, and that the evaluation depends on no other GUID.
-use Prim.Native.Nat.{ℕ, zero, suc, _≤_, _<_}
-use mathlib.Core.Path.{_≡_, refl, sym, ap, ap₂, subst, _∙_}
+use Prim.Native.Nat.{ℕ, zero, suc, _≤_}
+use mathlib.Core.Path.{_≡_, refl, sym, ap, ap₂, _∙_}
 use mathlib.Core.Bool.{Bool, true, false, cond, _||_, true≢false}
-use mathlib.Core.List.{List, [], _∷_, _++_}
+use mathlib.Core.List.{List, []}
 use mathlib.Core.Option.{Option, none, some, Option·none-ne-some}
 use native.Mathlib.Omega.{arith}
 use lib.Dec.{eqb}
-use lib.ListN.{length, getD, drop}
+use lib.ListN.{length, drop}
 use Rattle.common.specs.Refusals.{firstRefusal, unlessRefused}
 use Rattle.common.proofs.Refusals.{neither}
-use Rattle.dependency.specs.Opcodes.{Operand, bare, guid, version32, text, Installed, OpcodeRow, opcodes, endCode, endRow, rowOf, codeAt, after, operandOf, readRefusals}
+use Rattle.dependency.specs.Opcodes.{Operand, bare, guid, version32, text, Installed, OpcodeRow, opcodes, endCode, rowOf, codeAt, after, operandOf, readRefusals}
 use Rattle.dependency.specs.Expression.{Reading, fault, ended, next, readingFrom, reading}
 use Rattle.dependency.specs.Installed.{installedIn, InRow}
-use Rattle.dependency.specs.Evaluation.{Cell, valueOn, applied, resultCells, step, run, isMissing, lacks, outcome, AllGuids}
+use Rattle.dependency.specs.Evaluation.{Cell, applied, resultCells, step, run, isMissing, lacks, outcome, AllGuids}
 use Rattle.dependency.proofs.opcodes.Rows.{from-row}
-use Rattle.dependency.proofs.installed.Table.{no-used-row, first-of, used-row}
+use Rattle.dependency.proofs.installed.Table.{first-of, used-row}
 
 -- ---- a GUID in no used row
 

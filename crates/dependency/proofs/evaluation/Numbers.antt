@@ -1,5 +1,5 @@
 -- The numbers that refusals carry: those of document 02, and no others.
-use Prim.Native.Nat.{ℕ, zero, suc, _≤_}
+use Prim.Native.Nat.{ℕ, zero, suc}
 use mathlib.Core.Path.{_≡_, refl, subst}
 use mathlib.Core.Bool.{Bool, true, false, cond}
 use mathlib.Core.List.{List, [], _∷_, _++_}
@@ -8,13 +8,13 @@ use mathlib.Core.Option.{Option, none, some, Option·none-ne-some}
 use native.Mathlib.Omega.{arith}
 use lib.Dec.{eqb, ltb}
 use lib.ListN.{length, drop}
-use Rattle.common.specs.Answers.{Answer, refused, success}
+use Rattle.common.specs.Answers.{refused, success}
 use Rattle.common.specs.Refusals.{firstRefusal, unlessRefused}
 use Rattle.common.proofs.Refusals.{AllNumbers, refusal-number}
 use Rattle.dependency.specs.Opcodes.{Kind, truth, endCode, rowOf, codeAt, after, operandOf, operandRefusals, readRefusals, readOpcode, OpcodeWritten, wrote, opcodeBytes, writeRefusals, writeOpcode, OfReader, OfWriter}
 use Rattle.dependency.specs.Expression.{Reading, fault, ended, next, readingFrom, reading}
 use Rattle.dependency.specs.Installed.{installedIn}
-use Rattle.dependency.specs.Validation.{kindsAfter, stackRefusals, isOneTruth, faultFrom, validity, validateOf, OfTest}
+use Rattle.dependency.specs.Validation.{kindsAfter, stackRefusals, isOneTruth, faultFrom, validateOf, OfTest}
 use Rattle.dependency.specs.Evaluation.{valueOn, run, lacks, truthNumber, outcome, evaluateOf}
 use Rattle.dependency.proofs.evaluation.Runs.{refused-some}
 

@@ -8,7 +8,7 @@ use lib.ListN.{length, take, drop, length-map}
 use Rattle.common.specs.Refusals.{firstRefusal}
 use Rattle.dependency.specs.Opcodes.{Kind, version, truth, Installed, Result, OpcodeRow}
 use Rattle.dependency.specs.Expression.{Reading, fault, ended, next, Ends}
-use Rattle.dependency.specs.Validation.{resultKinds, kindsAfter, onTop, stackRefusals, isOneTruth, faultFrom}
+use Rattle.dependency.specs.Validation.{resultKinds, kindsAfter, stackRefusals, isOneTruth, faultFrom}
 use Rattle.dependency.specs.Evaluation.{Cell, kindOf, kinds, applied, cellOf, resultCells, step, run, Sound, Soundly}
 use Rattle.dependency.proofs.validation.Passing.{on-top, on-top-of, Passes, passes, passing, none-then, passed-or, one-truth, truth-one}
 

@@ -3,12 +3,11 @@ use Prim.Native.Nat.{ℕ, _+_, _-_, _≤_}
 use mathlib.Core.Path.{_≡_, sym, ap, _∙_}
 use mathlib.Core.List.{List, []}
 use mathlib.Core.Option.{Option, some}
-use native.Mathlib.Omega.{arith}
 use lib.ListN.{length, drop, length-drop, drop-of-length-le}
 use lib.Seq.{drop-drop}
 use Rattle.common.specs.Answers.{Answer, refused}
 use Rattle.common.specs.Refusals.{firstRefusal, unlessRefused}
-use Rattle.dependency.specs.Opcodes.{endCode, rowOf, readAnswer, readOpcode}
+use Rattle.dependency.specs.Opcodes.{endCode, readAnswer, readOpcode}
 use Rattle.dependency.specs.Expression.{Reading, reading}
 use Rattle.dependency.specs.Validation.{kindsAfter, stackRefusals, faultFrom, validity, validateOf}
 use Rattle.dependency.specs.Stack.{Coded, endedOf, takesOf, leavesOf, kindsOf, Held, Follows}

@@ -9,11 +9,10 @@ use Rattle.common.proofs.Refusals.{no-row}
 use Rattle.volume.specs.Header.{opens, openVolume, openingAnswer}
 use Rattle.volume.specs.declared.header.Opening as Opening
 use Rattle.volume.specs.declared.state.State.{State}
-use Rattle.volume.specs.ExtendedEntry.{extEntry}
 use Rattle.block_service.specs.Erase.{listWords}
 use Rattle.block_service.specs.Service.{result, step, read, write, eraseBlocks, erasedAnswer}
 use Rattle.block_service.specs.declared.service.Erased as Erased
-use Rattle.fv.specs.Answer.{answerBytes, answerStored, entryWords}
+use Rattle.fv.specs.Answer.{answerBytes, answerStored}
 use Rattle.fv.specs.Called.{called}
 use Rattle.fv.specs.Packed.{packed, unpacked, stateBytes}
 use Rattle.fv.specs.VolumeCalls.{openCall, readCall, writeCall, eraseCall, stateAfter}
