@@ -1,0 +1,9 @@
+-- `numbers::u32_of` meets its contract: its sum is the number of the four bytes.
+use native.Mathlib.Omega.{arith}
+use borrow.Author.Rules.{rules}
+use Rattle.numbers.specs.LittleEndian.{le}
+use Rattle.numbers.proofs.u32_of.Goals as goal
+
+pub returns : goal.returns
+unfolding le
+returns c = omega arith
