@@ -7,7 +7,7 @@ use numbers::wide;
 
 // The place of a block: its map entry, the byte of the volume at which it starts, its length, and the
 // number of blocks from it to the end of its entry, itself included.
-#[derive(Drop)]
+#[derive(Clone, Copy)]
 pub enum Place {
     At {
         entry: usize,

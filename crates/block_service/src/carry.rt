@@ -53,7 +53,7 @@ pub(crate) fn carry_list(
 }
 
 // The bytes of the volume from `start` up to, not including, `end`.
-#[derive(Drop)]
+#[derive(Clone, Copy)]
 struct Span {
     start: usize,
     end: usize,
@@ -147,7 +147,7 @@ fn fill_run(
 }
 
 // How far a walk over a pair's blocks came: the number of the next byte, and the next block.
-#[derive(Drop)]
+#[derive(Clone, Copy)]
 struct Step {
     at: usize,
     block: usize,
@@ -273,7 +273,7 @@ fn mark_front(marks: &mut [u64], list: &[u64], tail: &[u8], pairs: usize)
 }
 
 // How far a walk over a list's first pairs came: the number of the next byte, and the number of pairs.
-#[derive(Drop)]
+#[derive(Clone, Copy)]
 struct Front {
     at: usize,
     pairs: usize,

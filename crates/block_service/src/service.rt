@@ -28,35 +28,35 @@ use volume::block_map::block_count;
 use volume::state::unlawful_state;
 
 // Settings, as they are or as they were set.
-#[derive(Drop)]
+#[derive(Clone, Copy)]
 pub enum Settings {
     Success(u32),
     Refused(u16),
 }
 
 // What setting the settings answers, and the state afterwards.
-#[derive(Drop)]
+#[derive(Clone, Copy)]
 pub struct NewSettings {
     pub answer: Settings,
     pub state: State,
 }
 
 // The address at which the volume is mapped.
-#[derive(Drop)]
+#[derive(Clone, Copy)]
 pub enum Address {
     Success(u64),
     Refused(u16),
 }
 
 // A block's length, and the number of consecutive blocks of that length from it on, itself included.
-#[derive(Drop)]
+#[derive(Clone, Copy)]
 pub enum BlockSize {
     Success { length: usize, count: usize },
     Refused(u16),
 }
 
 // The number of bytes that a read or a write moved: all of them, or fewer (document 01's answer 4).
-#[derive(Drop)]
+#[derive(Clone, Copy)]
 pub enum Moved {
     Success(usize),
     Short(usize),
@@ -64,21 +64,21 @@ pub enum Moved {
 }
 
 // Whether the blocks of a list were erased.
-#[derive(Drop)]
+#[derive(Clone, Copy)]
 pub enum Erased {
     Success,
     Refused(u16),
 }
 
 // What accepting an erase list answers: a job.
-#[derive(Drop)]
+#[derive(Clone, Copy)]
 pub enum Accepted {
     Job(u64),
     Refused(u16),
 }
 
 // What carrying a job on answers: nothing is left, or the job as it now stands.
-#[derive(Drop)]
+#[derive(Clone, Copy)]
 pub enum Progress {
     Finished,
     Job(u64),
@@ -86,14 +86,14 @@ pub enum Progress {
 }
 
 // Whether the first protected block was set.
-#[derive(Drop)]
+#[derive(Clone, Copy)]
 pub enum Protection {
     Success,
     Refused(u16),
 }
 
 // What protecting blocks answers, and the state afterwards.
-#[derive(Drop)]
+#[derive(Clone, Copy)]
 pub struct NewProtection {
     pub answer: Protection,
     pub state: State,
@@ -532,7 +532,7 @@ fn job_given(all: usize, job: usize) -> bool
 const NO_LIMIT: u64 = 0xFFFFFFFFFFFFFFFF;
 
 // Where the block lies that a read or a write starts in, or what refuses it.
-#[derive(Drop)]
+#[derive(Clone, Copy)]
 pub(crate) enum Reach {
     At { start: usize, len: usize },
     Refused(u16),

@@ -15,7 +15,7 @@ use crate::opcodes::{
 use crate::validation::{Validated, validate};
 
 // Whether the expression holds, or the refusal.
-#[derive(Drop)]
+#[derive(Clone, Copy)]
 pub enum Evaluated {
     Truth(bool),
     Refused(u16),

@@ -7,7 +7,7 @@ use crate::opcodes::GUID_BYTES;
 
 pub(crate) const ROWS: usize = 16;
 
-#[derive(Drop)]
+#[derive(Clone, Copy)]
 pub(crate) enum Found {
     Version(u32),
     Missing,

@@ -38,21 +38,21 @@ pub(crate) const GUID_BYTES: usize = 16;
 const VERSION_BYTES: usize = 4;
 
 // An opcode and the place after its operand, or the refusal. The operand is the bytes from 1 up to that place.
-#[derive(Drop)]
+#[derive(Clone, Copy)]
 pub enum Read {
     Opcode { opcode: u8, after: usize },
     Refused(u16),
 }
 
 // How many bytes were stored, or the refusal.
-#[derive(Drop)]
+#[derive(Clone, Copy)]
 pub enum Written {
     Success(usize),
     Refused(u16),
 }
 
 // What an opcode does to the stack, but for the value that it leaves: two columns of the definitions' list of opcodes.
-#[derive(Drop)]
+#[derive(Clone, Copy)]
 pub(crate) enum Effect {
     PushesVersion,
     PushesTruth,

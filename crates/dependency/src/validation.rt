@@ -8,14 +8,14 @@ ghost use Rattle.dependency.specs.Stack.{Follows, Held, digit_kind, ended_of, ki
 use crate::opcodes::{END, Effect, Read, effect_of, read_opcode};
 
 // An expression that can be evaluated, or the refusal.
-#[derive(Drop)]
+#[derive(Clone, Copy)]
 pub enum Validated {
     Valid,
     Refused(u16),
 }
 
 // The kinds on the stack after an opcode, as a number, and how many they are; or the opcode's refusal.
-#[derive(Drop)]
+#[derive(Clone, Copy)]
 pub(crate) enum Next {
     Kinds(u64, usize),
     Refused(u16),

@@ -20,7 +20,7 @@ use volume::ExtEntry;
 pub(crate) const ANSWER_BYTES: usize = 16;
 
 // A call's number, whether it stores an answer, and the two numbers of that.
-#[derive(Drop)]
+#[derive(Clone, Copy)]
 pub(crate) struct Outcome {
     number: u32,
     stored: bool,

@@ -18,7 +18,7 @@ use text::{put_field, put_word};
 use volume::{Opening, State, open_volume};
 
 // What a listing answers: the length of its text, or 5 where the room is too short.
-#[derive(Drop)]
+#[derive(Clone, Copy)]
 pub enum Listed {
     Success(usize),
     Refused(u16),

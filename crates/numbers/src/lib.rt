@@ -36,7 +36,7 @@ pub fn u24_at(s: &[u8], at: usize) -> u32
 }
 
 // A 24-bit number, and the byte after it.
-#[derive(Drop)]
+#[derive(Clone, Copy)]
 pub struct U24Byte {
     pub number: u32,
     pub byte: u8,

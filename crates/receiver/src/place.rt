@@ -14,7 +14,7 @@ pub const LEVELS: usize = 8;
 // What comes next: the rest of a section's header, of which so many bytes are there; so many bytes up to
 // a section's contents or, where they are not searched, its end; so many bytes of padding; nothing; more
 // bytes than were announced came; or a fault was found, and what comes does not matter.
-#[derive(Drop)]
+#[derive(Clone, Copy)]
 pub enum Phase {
     Header(usize),
     Body(usize),
@@ -29,7 +29,7 @@ pub enum Phase {
 // where they are not searched; in padding, of what follows it. Of each of the `depth` sections that are
 // entered, `pads` and `lefts` have what follows it in the stream that holds it: padding, and the bytes
 // behind that.
-#[derive(Drop)]
+#[derive(Clone, Copy)]
 pub struct Place {
     pub phase: Phase,
     pub at: usize,
@@ -40,7 +40,7 @@ pub struct Place {
 }
 
 // A place without its arrays, which go by reference from step to step.
-#[derive(Drop)]
+#[derive(Clone, Copy)]
 pub(crate) struct Here {
     pub(crate) phase: Phase,
     pub(crate) at: usize,

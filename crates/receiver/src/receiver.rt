@@ -17,7 +17,7 @@ use std::num::wrapping_add_usize;
 
 // The state between portions: what is wanted, what was met, where it is in the file, and the bytes that
 // came of a header that is not whole yet, zero behind them.
-#[derive(Drop)]
+#[derive(Clone, Copy)]
 pub struct Receiver {
     pub mode: Mode,
     pub want: u8,
@@ -28,27 +28,27 @@ pub struct Receiver {
 
 // What changes in a receiver while it takes the bytes of a portion, but for its arrays, which go by
 // reference.
-#[derive(Drop)]
+#[derive(Clone, Copy)]
 pub(crate) struct Cursor {
     pub(crate) tally: Tally,
     pub(crate) here: Here,
 }
 
 // The same, with how many bytes were taken.
-#[derive(Drop)]
+#[derive(Clone, Copy)]
 pub(crate) struct Step {
     pub(crate) cursor: Cursor,
     pub(crate) used: usize,
 }
 
 // What the announcement answers: that the file may come, or 206; and the receiver.
-#[derive(Drop)]
+#[derive(Clone, Copy)]
 pub enum Announcement {
     Accepted,
     Refused(u16),
 }
 
-#[derive(Drop)]
+#[derive(Clone, Copy)]
 pub struct Announced {
     pub answer: Announcement,
     pub receiver: Receiver,
@@ -57,7 +57,7 @@ pub struct Announced {
 // What the finish answers: the number of sections on the full walk, and the first byte and the end of the
 // part of the section wanted; or the fault that was found first, or 208 where more or fewer bytes came
 // than were announced, or 14.
-#[derive(Drop)]
+#[derive(Clone, Copy)]
 pub enum Received {
     Part {
         count: u64,

@@ -6,7 +6,7 @@ use std::num::wrapping_add_u64;
 
 // How many sections were met; how many of the type wanted are still to be passed; and, once it is met,
 // the part of the one wanted.
-#[derive(Drop)]
+#[derive(Clone, Copy)]
 pub struct Tally {
     pub count: u64,
     pub before: u64,

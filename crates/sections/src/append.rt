@@ -12,7 +12,7 @@ use crate::types::{COMMON_HEADER, SECTION_COMPRESSION, SECTION_GUID_DEFINED, typ
 use crate::walk::aligned;
 
 // What appending answers: the new used count; or document 01's refusal number, 2, 202, 206 or 5.
-#[derive(Drop)]
+#[derive(Clone, Copy)]
 pub enum Appended {
     Used(usize),
     Refused(u16),

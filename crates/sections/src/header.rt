@@ -9,7 +9,7 @@ use crate::types::{
 
 // The two meanings of a section's size field. In PI mode FF FF FF stands for a header of 8 bytes, in
 // which a 32-bit size follows the type; in Framework mode it is a size like any other.
-#[derive(Drop)]
+#[derive(Clone, Copy)]
 pub enum Mode {
     Framework,
     Pi,
@@ -35,7 +35,7 @@ const ATTRIBUTES: usize = 18;
 
 // What the first 4 or 8 bytes of a section say: a fault, or the type, the length of the header and the
 // size of a leaf or a holder.
-#[derive(Drop)]
+#[derive(Clone, Copy)]
 pub(crate) enum Size {
     Refused(u16),
     Leaf {
@@ -53,7 +53,7 @@ pub(crate) enum Size {
 // What stands at a start: a fault, a section that is not opened (a leaf, or a holder with packed
 // contents), or a holder whose contents, from `from` to `end`, are searched. A section shows the
 // bytes from `first` to `end`.
-#[derive(Drop)]
+#[derive(Clone, Copy)]
 pub enum Head {
     Fault(u16),
     Closed {

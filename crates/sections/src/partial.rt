@@ -12,7 +12,7 @@ pub const LONGEST_HEADER: usize = 28;
 // What the first bytes of a section say, in places counted from its first byte: too little yet; a
 // fault, 201 to 204; a section that is not opened; or a holder whose contents, from `from` to `end`, are
 // searched. A section shows the bytes from `first` to `end`.
-#[derive(Drop)]
+#[derive(Clone, Copy)]
 pub enum Partial {
     Waiting,
     Fault(u16),

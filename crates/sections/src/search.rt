@@ -24,7 +24,7 @@ const STOPS: u64 = 1;
 // What a search answers: the part of the lent stream after the section's header, by first byte and
 // end; or document 01's refusal number, 201 to 207 for the first fault that it met, or 14 where there
 // is no such section.
-#[derive(Drop)]
+#[derive(Clone, Copy)]
 pub enum Found {
     Part { first: usize, end: usize },
     Refused(u16),

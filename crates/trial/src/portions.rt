@@ -8,7 +8,7 @@ use receiver::{Announced, Announcement, Received, Receiver, announce, fault, fin
 use std::num::{wrapping_add_usize, wrapping_sub_usize};
 
 // What a reception came to: the finish's answer, zeros beside a refusal's number, and the fault found.
-#[derive(Drop)]
+#[derive(Clone, Copy)]
 struct Outcome {
     number: u16,
     count: u64,

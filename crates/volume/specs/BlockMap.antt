@@ -50,7 +50,7 @@ all_zero (w ∷ rest) = w == 0 && all_zero rest
 unfoldable pub size_fault : ℕ → List ℕ → ℕ → Bool
 size_fault n words len =
     any
-    (n == 0
+    ((n == 0)
     ∷ nat_lt max_entries n
     ∷ nat_lt max_blocks (blocks words)
     ∷ nat_lt max_length len

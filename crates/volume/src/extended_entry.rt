@@ -7,7 +7,7 @@ use crate::extended_header::{EXT_ENTRIES, EXT_HEADER_OFFSET, EXT_SIZE, EXT_TYPE}
 use crate::header::{Opening, open_volume};
 
 // An entry: its first byte in the volume, its size and its type. Or the refusal's number: opening's, or 14.
-#[derive(Drop)]
+#[derive(Clone, Copy)]
 pub enum ExtEntry {
     Success {
         first: usize,

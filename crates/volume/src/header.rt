@@ -40,14 +40,14 @@ const SHORTEST_HEADER: usize = 72;
 const LONGEST_HEADER: usize = 320;
 
 // What opening answers: success, or the refusal's number in documents 01 and 02 (101 to 110, 112).
-#[derive(Drop)]
+#[derive(Clone, Copy)]
 pub enum Opening {
     Success,
     Refused(u16),
 }
 
 // The answer, and the state; on a refusal the zero state.
-#[derive(Drop)]
+#[derive(Clone, Copy)]
 pub struct Opened {
     pub answer: Opening,
     pub state: State,

@@ -17,7 +17,7 @@ use crate::header::{
 use std::num::wrapping_sub_u16;
 
 // What writing a header answers: its length, or the refusal's number in document 01 (106, 107, 108, 5).
-#[derive(Drop)]
+#[derive(Clone, Copy)]
 pub enum Written {
     Success(usize),
     Refused(u16),

@@ -9,7 +9,7 @@ use crate::block_map::{MAX_ENTRIES, all_zero, protected_map_fault};
 // are what document 01 calls the settings. The edition is the header's revision, 1 or 2. The block map is the first `entries` pairs of `map`, each a
 // block count and a block length; the rest of `map` is zero. Blocks from `protected` on are neither written nor erased; where none is protected it is
 // the number of blocks, as opening leaves it (document 02's mark).
-#[derive(Drop)]
+#[derive(Clone, Copy)]
 pub struct State {
     pub guid: [u8; 16],
     pub length: u64,

@@ -27,7 +27,7 @@ const MOST_ORDERS: usize = 64;
 const ORDER_BYTES: usize = 32;
 
 // A write order: from an offset of a block on, the stretch of the data buffer that begins at byte `first` and has `len` bytes.
-#[derive(Drop)]
+#[derive(Clone, Copy)]
 pub struct Order {
     pub block: u64,
     pub offset: usize,
@@ -36,14 +36,14 @@ pub struct Order {
 }
 
 // How many writes succeeded, and the last answer.
-#[derive(Drop)]
+#[derive(Clone, Copy)]
 pub struct Written {
     pub count: usize,
     pub last: Moved,
 }
 
 // Where a list stands between two orders: whether there is one more to be carried out, and what is answered where there is none.
-#[derive(Drop)]
+#[derive(Clone, Copy)]
 struct Stage {
     going: bool,
     written: Written,

@@ -5,7 +5,7 @@ use mathlib.Core.Bool.{Bool, true, false, cond, not, ◌&&◌, ◌||◌}
 use mathlib.Core.List.{List}
 use mathlib.Core.Logic.{◌⊎◌, inl, inr, ◌↔◌}
 use native.Mathlib.Omega.{arith}
-use borrow.Author.Tests.{ltb-true, ltb-false, eqb-true, eqb-false, not_true, not-false, eq-eqb, ne_eqb}
+use borrow.Author.Tests.{ltb-true, ltb-false, eqb-true, eqb-false, not-true, not-false, eq-eqb, ne_eqb}
 use lib.Dec.{eqb, ltb}
 use lib.ListN.{length}
 use Rattle.common.proofs.Refusals.{neither}
@@ -53,7 +53,7 @@ module _ (s : List ℕ) (at t h z : ℕ) where
       go : (b : Bool) → is_holder (type_info t).class ≡ true → wrong_contents s at t h z ≡ true → eqb t compression ≡ b → Wrong s at t h z
       go true holds w x =
           let k = both _ _ (rw x at w) in
-          inl (eqb-true _ _ x, eqb-true _ _ k.0, eqb-false _ _ (not_true _ k.1))
+          inl (eqb-true _ _ x, eqb-true _ _ k.0, eqb-false _ _ (not-true _ k.1))
       go false holds w x = inr (holder_guid t holds x, low_or_high (either _ _ (rw x at w)))
 
   is_unpacked : (is_holder (type_info t).class && wrong_contents s at t h z) ≡ false → t ≡ compression → compression_kind s (at + h) ≡ 0

@@ -1,7 +1,7 @@
 -- `settings::breaks_lock` meets its contract: the tests are the rule's.
 use mathlib.Core.Bool.{true, not}
 use mathlib.Core.Path.{◌≡◌, sym, ap, ◌∙◌}
-use borrow.Author.Tests.{not_true, not-false}
+use borrow.Author.Tests.{not-true, not-false}
 use Rattle.volume.specs.Attributes.{flag}
 use Rattle.settings.proofs.Rules.{unlocked, lowered, was_raised, was_clear}
 use borrow.Author.Rules.{rules}
@@ -19,13 +19,13 @@ is-set-requires : tie.Need-is-set-requires
 is-set-requires c κs = search rules
 
 returns : tie.Need-returns
-returns c = unlocked _ _ _ _ (sym c.before.is_set.ensures ∙ not_true _ c.if1.true)
+returns c = unlocked _ _ _ _ (sym c.before.is_set.ensures ∙ not-true _ c.if1.true)
 
 is-set-requires-2 : tie.Need-is-set-requires-2
 is-set-requires-2 c κs = search rules
 
 returns-2 : tie.Need-returns-2
-returns-2 c = let locked = c.before.before in lowered _ _ _ _ (on locked) (sym c.before.is-set2.ensures ∙ not_true _ c.if2.true)
+returns-2 c = let locked = c.before.before in lowered _ _ _ _ (on locked) (sym c.before.is-set2.ensures ∙ not-true _ c.if2.true)
 
 is-set-requires-3 : tie.Need-is-set-requires-3
 is-set-requires-3 c κs = search rules

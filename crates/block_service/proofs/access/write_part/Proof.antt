@@ -2,7 +2,7 @@
 use mathlib.Core.Path.{◌≡◌, sym, ◌∙◌}
 use native.Mathlib.Omega.{arith}
 use borrow.Author.Rules.{rules}
-use borrow.Author.Tests.{not_true, not-false}
+use borrow.Author.Tests.{not-true, not-false}
 use Rattle.block_service.proofs.access.Moves.{write_plain}
 use Rattle.block_service.proofs.access.write_part.Statement.{statement}
 use Rattle.block_service.proofs.access.write_part.Tie as tie

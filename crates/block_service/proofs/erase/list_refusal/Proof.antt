@@ -7,7 +7,7 @@ use mathlib.Core.Path.{◌≡◌, refl, sym, ap, ◌∙◌}
 use mathlib.Core.Logic.{⊎_elim}
 use native.Mathlib.Omega.{arith}
 use borrow.Author.Rules.{rules}
-use borrow.Author.Tests.{not-false, not_true}
+use borrow.Author.Tests.{not-false, not-true}
 use lib.ListN.{length, get_or, drop}
 use Rattle.common.specs.Refusals.{first_refusal, row}
 use Rattle.common.proofs.Refusals.{row_applies}
@@ -108,7 +108,7 @@ returns-2 c =
     let t = turn (pair tested) in
     c.list-verdict2.ensures
     ∙ bad _ _ _
-    (sym (bad_pair (words t) t.loop.i _ _ (paired tested) (first_is tested) (count_is tested) (search rules) _ _ tested.pair-fits.ensures (not_true _ c.before.if2.true)
+    (sym (bad_pair (words t) t.loop.i _ _ (paired tested) (first_is tested) (count_is tested) (search rules) _ _ tested.pair-fits.ensures (not-true _ c.before.if2.true)
     ∙ t.loop.inv.1))
 
 add-if3 : tie.Need-overflow-add-if3 invariant-loop decreases-loop

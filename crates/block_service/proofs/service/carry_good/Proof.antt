@@ -1,6 +1,6 @@
 -- `block_service::service::carry_good` meets its contract: after the count, which stores nothing, the job is refused, the list is, or the portion is stored, to the end or short of it.
 use native.Mathlib.Omega.{arith}
-use borrow.Author.Tests.{not_true, not-false}
+use borrow.Author.Tests.{not-true, not-false}
 use Rattle.block_service.proofs.service.Carrying.{progress_2, progress_15, progress_done, progress_job, given-le}
 use borrow.Author.Rules.{rules}
 use Rattle.block_service.proofs.service.carry_good.Statement.{statement}
@@ -16,7 +16,7 @@ same_length : tie.Need-same-length
 same_length c = search rules
 
 returns : tie.Need-returns
-returns c = progress_2 _ _ _ _ _ _ _ _ _ c.before.job-given.ensures c.before.before.before.before.carry-list.ensures.0 c.before.before.before.before.carry-list.ensures.1 (not_true _ c.if1.true) _
+returns c = progress_2 _ _ _ _ _ _ _ _ _ c.before.job-given.ensures c.before.before.before.before.carry-list.ensures.0 c.before.before.before.before.carry-list.ensures.1 (not-true _ c.if1.true) _
 
 same-length-2 : tie.Need-same-length-2
 same-length-2 c = search rules

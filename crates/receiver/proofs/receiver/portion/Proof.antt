@@ -1,6 +1,6 @@
 -- `receiver::receiver::portion` meets its contract: the receiver as it is, or its bytes one after the other.
 use Rattle.std.proofs.Common.{sym, ◌∙◌, rules}
-use borrow.Author.Tests.{not_true, not-false}
+use borrow.Author.Tests.{not-true, not-false}
 use Rattle.receiver.proofs.receiver.Cases.{portion_unsound, portion_sound}
 use Rattle.receiver.proofs.receiver.portion.Statement.{statement}
 use Rattle.receiver.proofs.receiver.portion.Tie as tie
@@ -9,7 +9,7 @@ is-sound-requires : tie.Need-is-sound-requires
 is-sound-requires c κs = search rules
 
 returns : tie.Need-returns
-returns c = portion_unsound _ _ (sym c.before.is-sound.ensures ∙ not_true _ (search rules))
+returns c = portion_unsound _ _ (sym c.before.is-sound.ensures ∙ not-true _ (search rules))
 
 feed-requires : tie.Need-feed-requires
 feed-requires c κs = sym c.before.is-sound.ensures ∙ not-false _ (search rules)

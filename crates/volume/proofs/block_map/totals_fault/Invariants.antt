@@ -1,0 +1,13 @@
+-- `volume::block_map::totals_fault` meets its contract: the running sums and those of the entries left make the map's, and no entry passed has a zero word.
+use Rattle.std.proofs.Common.{◌≡◌, ℕ, ◌+◌, ◌-◌, ◌*◌, ◌<◌, ◌≤◌, List, length, get_or, drop, sym, ap, ◌∙◌, ap₂, arith, rules}
+use Rattle.volume.specs.BlockMap.{blocks, bytes, has_zero, max_length}
+use Rattle.volume.proofs.block_map.Words.{product_fits, blocks_entry, bytes_entry, blocks_end, bytes_end, has_zero_end, zero_size, nonzero_size, zero_word, too_many, wrong_total, totals_end}
+use Rattle.volume.proofs.block_map.totals_fault.Given as goal
+
+abbrev pub invariant-loop-i : goal.invariant-loop-i
+invariant-loop-i l =
+    (l.i ≤ l.n) × (l.blocks_so_far ≤ 4294967296 * l.i) × (l.bytes_so_far ≤ max_length * l.i) × (has_zero (drop (2 * l.i) l.words) ≡ has_zero l.words)
+    × (l.blocks_so_far + blocks (drop (2 * l.i) l.words) ≡ blocks l.words) × (l.bytes_so_far + bytes (drop (2 * l.i) l.words) ≡ bytes l.words)
+
+abbrev pub decreases-loop-i : goal.decreases-loop-i
+decreases-loop-i l = l.n - l.i

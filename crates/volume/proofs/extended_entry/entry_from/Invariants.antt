@@ -1,0 +1,14 @@
+-- `volume::extended_entry::entry_from` meets its contract: the entry asked among all is the one of the number left among those left.
+use Rattle.std.proofs.Common.{◌≡◌, ℕ, ◌-◌, ◌≤◌, false, List, sym, refl, ◌∙◌, arith, rules}
+use Rattle.volume.specs.ExtendedHeader.{entries_from, entries_faulty}
+use Rattle.volume.specs.ExtendedEntry.{entry_answer, entry_of, entries_listed}
+use Rattle.volume.proofs.extended_header.Entries.{Next, next, good_within}
+use Rattle.volume.proofs.extended_entry.Numbered.{first_asked, later_asked, none_asked}
+use Rattle.volume.proofs.extended_entry.entry_from.Given as goal
+
+abbrev pub invariant-loop-at : goal.invariant-loop-at
+invariant-loop-at l =
+    (l.at ≤ l.end) × (entries_faulty (entries_from l.s l.at l.end) ≡ false) × (entry_of (entries_listed (entries_from l.s l.from l.end)) l.number ≡ entry_of (entries_listed (entries_from l.s l.at l.end)) l.left)
+
+abbrev pub decreases-loop-at : goal.decreases-loop-at
+decreases-loop-at l = l.end - l.at
