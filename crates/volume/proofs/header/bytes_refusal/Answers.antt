@@ -66,7 +66,7 @@ returns-then-word_sum-ne0 c =
       long (goal.at.returns-then-word_sum-ne0 c).Else-s-lt-SHORTEST_HEADER,
       signed (goal.at.returns-then-word_sum-ne0 c).Else-u32_at-ne-SIGNATURE,
       revised (goal.at.returns-then-word_sum-ne0 c).Else-edition_fault,
-      measured (goal.at.returns-then-word_sum-ne0 c).After-header_length_fault,
+      measured (goal.at.returns-then-word_sum-ne0 c).Else-header_length_fault,
       ne_eqb (sum (goal.at.returns-then-word_sum-ne0 c).After-word_sum) 0 (λ e. omega (arith, summed (goal.at.returns-then-word_sum-ne0 c).After-word_sum)),
     )
 
@@ -77,6 +77,6 @@ returns c =
       long (goal.at.returns c).Else-s-lt-SHORTEST_HEADER,
       signed (goal.at.returns c).Else-u32_at-ne-SIGNATURE,
       revised (goal.at.returns c).Else-edition_fault,
-      measured (goal.at.returns c).After-header_length_fault,
+      measured (goal.at.returns c).Else-header_length_fault,
       eq-eqb (sum (goal.at.returns c).After-word_sum) 0 (omega (arith, summed (goal.at.returns c).After-word_sum)),
     )

@@ -62,7 +62,7 @@ map_fault-requires c = length-take-le _ _ (omega arith)
 pub returns-then-map_fault : goal.returns-then-map_fault
 unfolding refusal_of first_refusal open_refusals map_of state_with
 returns-then-map_fault c guid protected =
-    simp (mapped (goal.at.returns-then-map_fault c).After-u64_at guid protected, rw (nonzero (goal.at.returns-then-map_fault c).Else-has_zero) at (sym c.map_fault.ensures ∙ c.if-map_fault.true))
+    simp (mapped (goal.at.returns-then-map_fault c).Else-u64_at-ne0 guid protected, rw (nonzero (goal.at.returns-then-map_fault c).Else-has_zero) at (sym c.map_fault.ensures ∙ c.if-map_fault.true))
 
 pub returns-then-attributes_fault : goal.returns-then-attributes_fault
 unfolding refusal_of first_refusal open_refusals map_of state_with

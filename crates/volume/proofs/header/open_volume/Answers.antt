@@ -29,7 +29,7 @@ module _ (c : After-fields_refusal-late) where
   entries = (c.u16_at.result - 64) / 8
 
   abbrev words : List ℕ
-  words = c.read_map.new.1.1.0
+  words = c.read_map.new.map
 
   parts : state_with (guid_at header) c.u64_at-length.result c.u32_at-attributes.result base c.byte_at-edition.result
       (blocks (take (2 * entries) words)) entries words

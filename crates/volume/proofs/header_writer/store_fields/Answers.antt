@@ -8,13 +8,10 @@ use Rattle.volume.proofs.header_writer.store_fields.Goals.{After-room-8-1, Start
 guid_length : (c : Start) → length c.args.guid ≡ 16
 guid_length c = search rules
 
--- the places after each store, the last first, one from the next
-module _ (c : After-room-8-1) where
-
 pub returns : goal.returns
 returns c =
     let a = c.args in
-    fields_stored a.room.now a.t1 a.len a.attributes a.header (guid_length (goal.at.returns c).Start) _ _ _ _ _ _ _ _
+    fields_stored a.room.now a.guid a.len a.attributes a.header (guid_length (goal.at.returns c).Start) _ _ _ _ _ _ _ _
     c.store.ensures
     c.store-2.ensures
     c.store_bytes.ensures

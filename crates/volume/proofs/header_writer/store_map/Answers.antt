@@ -14,7 +14,7 @@ loop-i-preserved c =
     let l = c.loop-i in
     let m = c.args.map.now in (
       search rules,
-      c.store.auto.0 ∙ l.invariant.1,
+      search rules,
       l.invariant.2 ∙ words_next m l.room (replicate 8 0) 56 l.i (omega arith)
           ∙ ap (λ (x : List ℕ). sets x (56 + 4 * (l.i + 1)) (words_bytes (drop (l.i + 1) m) ++ replicate 8 0))
           (sym (rw c.wide.ensures.0 at c.store.ensures)),

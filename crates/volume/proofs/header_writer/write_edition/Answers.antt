@@ -70,7 +70,7 @@ module _ (c : After-store_map) where
 
 
 
-  header_there : c.store_map.new.1.0 ≡ header (goal.at.After-store_map c).Else-room-header 0 ++ drop (long (goal.at.After-store_map c).Else-room-header) (room (goal.at.After-store_map c).Else-room-header)
+  header_there : c.store_map.new.room ≡ header (goal.at.After-store_map c).Else-room-header 0 ++ drop (long (goal.at.After-store_map c).Else-room-header) (room (goal.at.After-store_map c).Else-room-header)
   header_there =
       let a = c.args in
       c.store_map.ensures
@@ -83,12 +83,12 @@ module _ (c : After-store_map) where
       c.if-map-ne0.false (within (goal.at.After-store_map c).Else-room-header)
       ∙ ap (λ (h : ℕ). header (goal.at.After-store_map c).Else-room-header 0 ++ drop h (room (goal.at.After-store_map c).Else-room-header)) (sym (long_is (goal.at.After-store_map c).Else-room-header))
 
-  front_there : take (long (goal.at.After-store_map c).Else-room-header) c.store_map.new.1.0 ≡ header (goal.at.After-store_map c).Else-room-header 0
+  front_there : take (long (goal.at.After-store_map c).Else-room-header) c.store_map.new.room ≡ header (goal.at.After-store_map c).Else-room-header 0
   front_there =
       ap (λ (l : List ℕ). take (long (goal.at.After-store_map c).Else-room-header) l) header_there
       ∙ take_at (header (goal.at.After-store_map c).Else-room-header 0) (drop (long (goal.at.After-store_map c).Else-room-header) (room (goal.at.After-store_map c).Else-room-header)) (long (goal.at.After-store_map c).Else-room-header) (header_long (goal.at.After-store_map c).Else-room-header 0 ∙ sym (long_is (goal.at.After-store_map c).Else-room-header))
 
-  front_long : length (take (long (goal.at.After-store_map c).Else-room-header) c.store_map.new.1.0) ≡ long (goal.at.After-store_map c).Else-room-header
+  front_long : length (take (long (goal.at.After-store_map c).Else-room-header) c.store_map.new.room) ≡ long (goal.at.After-store_map c).Else-room-header
   front_long = ap length front_there ∙ header_long (goal.at.After-store_map c).Else-room-header 0 ∙ sym (long_is (goal.at.After-store_map c).Else-room-header)
 
 pub returns-then-has_zero : goal.returns-then-has_zero
@@ -130,7 +130,7 @@ store_map-requires c =
     omega (arith, (fits (goal.at.store_map-requires c).Else-room-header).few_entries)
 
 pub slice_bounds-word_sum-end-2 : goal.slice_bounds-word_sum-end-2
-slice_bounds-word_sum-end-2 c = sym (front_long (goal.at.slice_bounds-word_sum-end-2 c).After-store_map-arg-1)
+slice_bounds-word_sum-end-2 c = sym (front_long (goal.at.slice_bounds-word_sum-end-2 c).After-store_map)
 
 pub returns : goal.returns
 unfolding written_answer header_bytes
@@ -139,10 +139,10 @@ returns c =
     let rest = drop (long (goal.at.returns c).Else-room-header) (room (goal.at.returns c).Else-room-header) in
     let check = checksum (word_sum (header (goal.at.returns c).Else-room-header 0)) in
     let sum : c.word_sum-sum.result ≡ word_sum (header (goal.at.returns c).Else-room-header 0) % word_modulus =
-    c.word_sum-sum.ensures ∙ ap (λ (l : List ℕ). word_sum l % word_modulus) (front_there (goal.at.returns c).After-store_map-arg-1) in
+    c.word_sum-sum.ensures ∙ ap (λ (l : List ℕ). word_sum l % word_modulus) (front_there (goal.at.returns c).After-store_map) in
     let sum-off : c.wrapping_sub_u16.result ≡ check = omega arith in
     ap (λ (l : List ℕ). wrote (success (long (goal.at.returns c).Else-room-header ∷ [])) l)
-    ((rw sum-off at c.store.ensures) ∙ ap (λ (l : List ℕ). sets l 50 (le_bytes 2 check)) (header_there (goal.at.returns c).After-store_map-arg-1)
+    ((rw sum-off at c.store.ensures) ∙ ap (λ (l : List ℕ). sets l 50 (le_bytes 2 check)) (header_there (goal.at.returns c).After-store_map)
     ∙ checksum-stored check a.edition a.offset (guid (goal.at.returns c).Else-room-header) a.len a.attributes (words (goal.at.returns c).Else-map-ne0) rest (guid_length (goal.at.returns c).Start))
     ∙ ap (λ (h : ℕ). wrote (success (h ∷ [])) (header (goal.at.returns c).Else-room-header check ++ drop h (room (goal.at.returns c).Else-room-header))) (long_is (goal.at.returns c).Else-room-header)
     ∙ write_done a.edition a.offset (guid (goal.at.returns c).Else-room-header) a.len a.attributes (words (goal.at.returns c).Else-map-ne0) (room (goal.at.returns c).Else-room-header) (guid_length (goal.at.returns c).Start) c.if-map-ne0.false (roomy (goal.at.returns c).Else-room-header)

@@ -22,10 +22,10 @@ returns-then-entries-gt-MAX_ENTRIES c guid =
     simp (unlawful_is, too_many_entries a.entries (take (2 * a.entries) a.map.now) a.len c.if-entries-gt-MAX_ENTRIES.true, or-true)
 
 pub slice_bounds-protected_map_fault-end : goal.slice_bounds-protected_map_fault-end
-slice_bounds-protected_map_fault-end c = sym (length-take-le _ _ (omega (arith, map-length (goal.at.slice_bounds-protected_map_fault-end c).Else-entries-gt-MAX_ENTRIES)))
+slice_bounds-protected_map_fault-end c = sym (length-take-le _ _ (omega (arith, map-length c)))
 
 pub protected_map_fault-requires : goal.protected_map_fault-requires
-protected_map_fault-requires c = length-take-le _ _ (omega (arith, map-length (goal.at.protected_map_fault-requires c).Else-entries-gt-MAX_ENTRIES))
+protected_map_fault-requires c = length-take-le _ _ (omega (arith, map-length c))
 
 pub returns-then-protected_map_fault : goal.returns-then-protected_map_fault
 unfolding state_with map_of
