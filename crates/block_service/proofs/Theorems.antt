@@ -24,7 +24,7 @@ use Rattle.block_service.specs.Erase.{end_of_list, good_list, names, reaches, er
 use Rattle.block_service.specs.Judged.{stored, judged_write}
 use Rattle.block_service.specs.Order.{up_from, member, firsts, part, named_blocks, bytes_of, erase_order, job_given, carry_change, finishes}
 use Rattle.block_service.specs.Service.{Call, get_attributes, get_physical_address, set_attributes, get_block_size, read, write, erase_blocks, protect_blocks, accept_erase, carry_erase, carry_answer}
-use Rattle.block_service.specs.Service.{lent_refusals, refusals, move_answer, with_attributes, with_protected, result, buffer_of, step}
+use Rattle.block_service.specs.Service.{lent_refusals, refusals, move_answer, with_attributes, with_protected, result_of, buffer_of, step}
 use Rattle.settings.specs.Settings.{status_bits, changes_fixed, changes_locked, lacks_capability}
 use Rattle.block_service.specs.declared.blocks.Place.TheVariants.{At}
 use Rattle.block_service.proofs.access.Moves as Moves
@@ -65,46 +65,46 @@ pub refused_exactly : (st : State) (v : List ℕ) (c : Call) (n : ℕ)
 refused_exactly = Steps.refused_exactly
 
 -- "Service calls use 111, then 5, then 15, then 2": 111 first, at every call
-pub order_111 : (st : State) (v : List ℕ) (c : Call) → unlawful st ≡ true → step st v c ≡ result (refused 111) st v (buffer_of c)
+pub order_111 : (st : State) (v : List ℕ) (c : Call) → unlawful st ≡ true → step st v c ≡ result_of (refused 111) st v (buffer_of c)
 order_111 st v c e = sym (Steps.unlawful-step st v c e)
 
 -- then 5: "lent volume shorter than the state's length"
 pub order_5 : (st : State) (v : List ℕ) → unlawful st ≡ false → length v < st.length
-    → ((b o : ℕ) (buffer : List ℕ) → step st v (read b o buffer) ≡ result (refused 5) st v buffer)
-    × ((b o : ℕ) (new : List ℕ) → step st v (write b o new) ≡ result (refused 5) st v [])
-    × ((list : List ℕ) → step st v (erase_blocks list) ≡ result (refused 5) st v [])
+    → ((b o : ℕ) (buffer : List ℕ) → step st v (read b o buffer) ≡ result_of (refused 5) st v buffer)
+    × ((b o : ℕ) (new : List ℕ) → step st v (write b o new) ≡ result_of (refused 5) st v [])
+    × ((list : List ℕ) → step st v (erase_blocks list) ≡ result_of (refused 5) st v [])
 order_5 = Steps.order_5
 
 -- then 15: "reads or writes disabled"
 pub order_15_read : (st : State) (v : List ℕ) → unlawful st ≡ false → st.length ≤ length v → flag st.attributes read_status ≡ false
-    → (b o : ℕ) (buffer : List ℕ) → step st v (read b o buffer) ≡ result (refused 15) st v buffer
+    → (b o : ℕ) (buffer : List ℕ) → step st v (read b o buffer) ≡ result_of (refused 15) st v buffer
 order_15_read = Steps.order_15_read
 
 pub order_15_write : (st : State) (v : List ℕ) → unlawful st ≡ false → st.length ≤ length v → flag st.attributes write_status ≡ false
-    → ((b o : ℕ) (new : List ℕ) → step st v (write b o new) ≡ result (refused 15) st v [])
-    × ((list : List ℕ) → step st v (erase_blocks list) ≡ result (refused 15) st v [])
+    → ((b o : ℕ) (new : List ℕ) → step st v (write b o new) ≡ result_of (refused 15) st v [])
+    × ((list : List ℕ) → step st v (erase_blocks list) ≡ result_of (refused 15) st v [])
 order_15_write = Steps.order_15_write
 
 -- then 2: "no such block, bad erase list"
 pub order_2_read : (st : State) (v : List ℕ) → unlawful st ≡ false → st.length ≤ length v → flag st.attributes read_status ≡ true
-    → (b o : ℕ) (buffer : List ℕ) → blocks (map_of st) ≤ b → step st v (read b o buffer) ≡ result (refused 2) st v buffer
+    → (b o : ℕ) (buffer : List ℕ) → blocks (map_of st) ≤ b → step st v (read b o buffer) ≡ result_of (refused 2) st v buffer
 order_2_read = Steps.order_2_read
 
 pub order_2_write : (st : State) (v : List ℕ) → unlawful st ≡ false → st.length ≤ length v → flag st.attributes write_status ≡ true
-    → ((b o : ℕ) (new : List ℕ) → blocks (map_of st) ≤ b → step st v (write b o new) ≡ result (refused 2) st v [])
-    × ((list : List ℕ) → good_list (blocks (map_of st)) list ≡ false → step st v (erase_blocks list) ≡ result (refused 2) st v [])
+    → ((b o : ℕ) (new : List ℕ) → blocks (map_of st) ≤ b → step st v (write b o new) ≡ result_of (refused 2) st v [])
+    × ((list : List ℕ) → good_list (blocks (map_of st)) list ≡ false → step st v (erase_blocks list) ≡ result_of (refused 2) st v [])
 order_2_write = Steps.order_2_write
 
 pub order_2_size : (st : State) (v : List ℕ) (b : ℕ) → unlawful st ≡ false → blocks (map_of st) ≤ b
-    → step st v (get_block_size b) ≡ result (refused 2) st v []
+    → step st v (get_block_size b) ≡ result_of (refused 2) st v []
 order_2_size = Steps.order_2_size
 
 -- then, "after every 2", 15 "for a protected block written or anywhere in the erase list" (02, j): with writes enabled, any write that starts in a protected
 -- block, one of no bytes too, and any good list that names one
 pub order_15_protected : (st : State) (v : List ℕ) → unlawful st ≡ false → st.length ≤ length v → flag st.attributes write_status ≡ true
-    → ((b o : ℕ) (new : List ℕ) → b < blocks (map_of st) → st.protected ≤ b → step st v (write b o new) ≡ result (refused 15) st v [])
+    → ((b o : ℕ) (new : List ℕ) → b < blocks (map_of st) → st.protected ≤ b → step st v (write b o new) ≡ result_of (refused 15) st v [])
     × ((list : List ℕ) → good_list (blocks (map_of st)) list ≡ true → (b : ℕ) → T (names list b) → st.protected ≤ b
-    → step st v (erase_blocks list) ≡ result (refused 15) st v [])
+    → step st v (erase_blocks list) ≡ result_of (refused 15) st v [])
 order_15_protected = Steps.order_15_protected
 
 -- no row applies: with a lawful state, the volume lent whole, reads enabled and a block that is there, a read is not refused; it answers the count and
@@ -114,7 +114,7 @@ pub read_allowed : (st : State) (v : List ℕ) → unlawful st ≡ false → st.
     → ((n : ℕ) → (step st v (read b o buffer)).answer ≡ refused n → ⊥)
     × ((e : ℕ) × (s : ℕ) × (l : ℕ) × (r : ℕ) × (place (map_of st) b ≡ At e s l r)
     × (step st v (read b o buffer)
-    ≡ result (move_answer (count_moved l o (length buffer)) (length buffer)) st v
+    ≡ result_of (move_answer (count_moved l o (length buffer)) (length buffer)) st v
     (take (count_moved l o (length buffer)) (drop (s + o) v) ++ drop (count_moved l o (length buffer)) buffer)))
 read_allowed = Moving.read_allowed
 
@@ -124,7 +124,7 @@ pub write_allowed : (st : State) (v : List ℕ) → unlawful st ≡ false → st
     → ((n : ℕ) → (step st v (write b o new)).answer ≡ refused n → ⊥)
     × ((e : ℕ) × (s : ℕ) × (l : ℕ) × (r : ℕ) × (place (map_of st) b ≡ At e s l r)
     × (step st v (write b o new)
-    ≡ result (move_answer (count_moved l o (length new)) (length new)) st
+    ≡ result_of (move_answer (count_moved l o (length new)) (length new)) st
     (edit (λ i old. changed_byte st.attributes (write_change (s + o) (count_moved l o (length new)) new i) old) 0 v) []))
 write_allowed = Moving.write_allowed
 
@@ -132,31 +132,31 @@ write_allowed = Moving.write_allowed
 pub erase_allowed : (st : State) (v list : List ℕ) → unlawful st ≡ false → st.length ≤ length v → flag st.attributes write_status ≡ true
     → good_list (blocks (map_of st)) list ≡ true → ((b : ℕ) → T (names list b) → b < st.protected)
     → step st v (erase_blocks list)
-    ≡ result (success []) st (edit (λ i old. changed_byte st.attributes (erase_change (map_of st) list i) old) 0 v) []
+    ≡ result_of (success []) st (edit (λ i old. changed_byte st.attributes (erase_change (map_of st) list i) old) 0 v) []
 erase_allowed = Erasing.erase_allowed
 
 -- the calls that are not lent the volume, of a lawful state: the settings are read
-pub settings_read : (st : State) (v : List ℕ) → unlawful st ≡ false → step st v get_attributes ≡ result (success (st.attributes ∷ [])) st v []
+pub settings_read : (st : State) (v : List ℕ) → unlawful st ≡ false → step st v get_attributes ≡ result_of (success (st.attributes ∷ [])) st v []
 settings_read = Steps.settings_read
 
 -- the size of a block that is there is answered: its length, and the number of consecutive blocks of that length from it on
 pub size_answered : (st : State) (v : List ℕ) (b : ℕ) → unlawful st ≡ false → b < blocks (map_of st)
-    → (l : ℕ) × HasLength (place (map_of st) b) l × (step st v (get_block_size b) ≡ result (success (l ∷ consecutive_blocks (map_of st) b ∷ [])) st v [])
+    → (l : ℕ) × HasLength (place (map_of st) b) l × (step st v (get_block_size b) ≡ result_of (success (l ∷ consecutive_blocks (map_of st) b ∷ [])) st v [])
 size_answered = Sizes.size_answered
 
 -- "the base address uses 111, then 3"
 pub order_3 : (st : State) (v : List ℕ) → unlawful st ≡ false → flag st.attributes memory_mapped ≡ false
-    → step st v get_physical_address ≡ result (refused 3) st v []
+    → step st v get_physical_address ≡ result_of (refused 3) st v []
 order_3 = Steps.order_3
 
 -- and the base address of a volume that is memory mapped is answered
 pub address_read : (st : State) (v : List ℕ) → unlawful st ≡ false → flag st.attributes memory_mapped ≡ true
-    → step st v get_physical_address ≡ result (success (st.base ∷ [])) st v []
+    → step st v get_physical_address ≡ result_of (success (st.base ∷ [])) st v []
 address_read = Steps.address_read
 
 -- "A refusal carries no value but its number; the state stays, and no lent byte changes"
 pub refused_changes_nothing : (st : State) (v : List ℕ) (c : Call) (n : ℕ) → (step st v c).answer ≡ refused n
-    → step st v c ≡ result (refused n) st v (buffer_of c)
+    → step st v c ≡ result_of (refused n) st v (buffer_of c)
 refused_changes_nothing = Steps.refused_changes_nothing
 
 -- "Volume bytes past the state's length never change"
@@ -339,7 +339,7 @@ named_twice = Erasing.named_twice
 
 -- "The empty list succeeds and changes nothing": the terminator, and whatever words follow it
 pub empty_list : (st : State) (v rest : List ℕ) → unlawful st ≡ false → st.length ≤ length v → flag st.attributes write_status ≡ true
-    → step st v (erase_blocks (end_of_list ∷ rest)) ≡ result (success []) st v []
+    → step st v (erase_blocks (end_of_list ∷ rest)) ≡ result_of (success []) st v []
 empty_list = Erasing.empty_list
 
 -- an erase list that comes as bytes (02, m): "eight to a word", the number of its words
@@ -358,7 +358,7 @@ part_word_ignored = ByteLists.part_ignored
 
 -- "any bit changed other than 4, 0x20, 0x80: 2", in edition 2 other than those, 0x2000 and 0x8000
 pub set_fixed : (st : State) (v : List ℕ) (new : ℕ) → unlawful st ≡ false → changes_fixed st.edition st.attributes new ≡ true
-    → step st v (set_attributes new) ≡ result (refused 2) st v []
+    → step st v (set_attributes new) ≡ result_of (refused 2) st v []
 set_fixed = Setting.set_fixed
 
 -- no such bit is changed exactly where the settings agree at every bit of value 2 ^ k that is not a status's
@@ -370,13 +370,13 @@ bits_fixed = Rules.bits_fixed
 
 -- "Locked and any bit changed: 15", in edition 2 also "where a status already locked would change or a lock bit be lowered" (02, a)
 pub set_locked : (st : State) (v : List ℕ) (new : ℕ) → unlawful st ≡ false → changes_fixed st.edition st.attributes new ≡ false
-    → changes_locked st.edition st.attributes new ≡ true → step st v (set_attributes new) ≡ result (refused 15) st v []
+    → changes_locked st.edition st.attributes new ≡ true → step st v (set_attributes new) ≡ result_of (refused 15) st v []
 set_locked = Setting.set_locked
 
 -- "A change that lacks its capability .. : 2"
 pub set_lacking : (st : State) (v : List ℕ) (new : ℕ) → unlawful st ≡ false → changes_fixed st.edition st.attributes new ≡ false
     → changes_locked st.edition st.attributes new ≡ false → lacks_capability st.edition st.attributes new ≡ true
-    → step st v (set_attributes new) ≡ result (refused 2) st v []
+    → step st v (set_attributes new) ≡ result_of (refused 2) st v []
 set_lacking = Setting.set_lacking
 
 -- where only statuses change, 2 comes of a missing capability alone
@@ -387,12 +387,12 @@ set-refused_2 = Setting.set-refused_2
 -- otherwise the settings are set, and nothing else in the state changes
 pub set_done : (st : State) (v : List ℕ) (new : ℕ) → unlawful st ≡ false → changes_fixed st.edition st.attributes new ≡ false
     → changes_locked st.edition st.attributes new ≡ false → lacks_capability st.edition st.attributes new ≡ false
-    → step st v (set_attributes new) ≡ result (success (new ∷ [])) (with_attributes st new) v []
+    → step st v (set_attributes new) ≡ result_of (success (new ∷ [])) (with_attributes st new) v []
 set_done = Setting.set_done
 
 -- "Asking for the settings as they are succeeds": locked too, and nothing changes
 pub settings_as_they_are : (st : State) (v : List ℕ) → unlawful st ≡ false
-    → step st v (set_attributes st.attributes) ≡ result (success (st.attributes ∷ [])) st v []
+    → step st v (set_attributes st.attributes) ≡ result_of (success (st.attributes ∷ [])) st v []
 settings_as_they_are = Setting.settings_as_they_are
 
 -- "never lowered" (02, a), at every call of edition 2: a lock that is set stays set, and the status that it keeps keeps its value. Over whole runs:
@@ -419,16 +419,16 @@ pub names-reaches : (list : List ℕ) (m b : ℕ) → m ≤ b → T (names list 
 names-reaches = Lists.names-reaches
 
 -- "It may be lowered, never raised", of a lawful state: a first protected block above the present one is refused with 2
-pub protect_raised : (st : State) (v : List ℕ) (first : ℕ) → unlawful st ≡ false → st.protected < first → step st v (protect_blocks first) ≡ result (refused 2) st v []
+pub protect_raised : (st : State) (v : List ℕ) (first : ℕ) → unlawful st ≡ false → st.protected < first → step st v (protect_blocks first) ≡ result_of (refused 2) st v []
 protect_raised = Protecting.protect_raised
 
 -- and any other is set, whatever the settings and their locks, and nothing else in the state changes
 pub protect_done : (st : State) (v : List ℕ) (first : ℕ) → unlawful st ≡ false → first ≤ st.protected
-    → step st v (protect_blocks first) ≡ result (success []) (with_protected st first) v []
+    → step st v (protect_blocks first) ≡ result_of (success []) (with_protected st first) v []
 protect_done = Protecting.protect_done
 
 -- the one that is, too, and then nothing changes
-pub protected_as_it_is : (st : State) (v : List ℕ) → unlawful st ≡ false → step st v (protect_blocks st.protected) ≡ result (success []) st v []
+pub protected_as_it_is : (st : State) (v : List ℕ) → unlawful st ≡ false → step st v (protect_blocks st.protected) ≡ result_of (success []) st v []
 protected_as_it_is = Protecting.protected_as_it_is
 
 -- it stores nothing in the volume
@@ -437,7 +437,7 @@ protect_stores_nothing = Protecting.protect_stores_nothing
 
 -- "reads are free", of a lawful state: with more blocks protected, up to all, a read answers the same and fills the buffer with the same bytes
 pub read_free : (st : State) (v : List ℕ) (first : ℕ) → unlawful st ≡ false → first ≤ st.protected → (b o : ℕ) (buffer : List ℕ)
-    → let r = step st v (read b o buffer) in step (with_protected st first) v (read b o buffer) ≡ result r.answer (with_protected st first) v r.buffer
+    → let r = step st v (read b o buffer) in step (with_protected st first) v (read b o buffer) ≡ result_of r.answer (with_protected st first) v r.buffer
 read_free = Protecting.read_free
 
 -- no call raises the first protected block
@@ -506,8 +506,8 @@ order_upward = Orders.run_upward
 -- "One operation accepts the list and answers a job", "111, 5, 15 and 2 at acceptance as before": a list is accepted exactly where its erase succeeds, with the
 -- job 0, and refused with the number with which its erase is; nothing is stored
 pub accept_as_erase : (st : State) (v list : List ℕ)
-    → ((step st v (erase_blocks list)).answer ≡ success [] → step st v (accept_erase list) ≡ result (success (0 ∷ [])) st v [])
-    × ((n : ℕ) → (step st v (erase_blocks list)).answer ≡ refused n → step st v (accept_erase list) ≡ result (refused n) st v [])
+    → ((step st v (erase_blocks list)).answer ≡ success [] → step st v (accept_erase list) ≡ result_of (success (0 ∷ [])) st v [])
+    × ((n : ℕ) → (step st v (erase_blocks list)).answer ≡ refused n → step st v (accept_erase list) ≡ result_of (refused n) st v [])
 accept_as_erase = Jobs.accept_as_erase
 
 pub accept_stores_nothing : (st : State) (v list : List ℕ) → (step st v (accept_erase list)).volume ≡ v
@@ -518,7 +518,7 @@ accept_stores_nothing = Jobs.accept_stores_nothing
 pub carry_allowed : (st : State) (v list : List ℕ) → unlawful st ≡ false → st.length ≤ length v → flag st.attributes write_status ≡ true
     → good_list (blocks (map_of st)) list ≡ true → ((b : ℕ) → T (names list b) → b < st.protected) → (job n : ℕ) → job_given (map_of st) list job ≡ true
     → step st v (carry_erase list job n)
-    ≡ result (carry_answer (finishes (map_of st) list job n) (job + n)) st (edit (λ i old. changed_byte st.attributes (carry_change (map_of st) list job n i) old) 0 v) []
+    ≡ result_of (carry_answer (finishes (map_of st) list job n) (job + n)) st (edit (λ i old. changed_byte st.attributes (carry_change (map_of st) list job n i) old) 0 v) []
 carry_allowed = Jobs.carry_allowed
 
 -- which get the erase value; every other byte is as before
@@ -547,7 +547,7 @@ portions_add = Jobs.portions_add
 -- "The old erase becomes accepting, then carrying on to the end, its promise unchanged": where the list is refused, so is its erase; where it is accepted, carrying
 -- on from the job answered, by as many stores as the order has bytes or any more, answers and leaves what the erase does
 pub two_operations : (st : State) (v list : List ℕ) (n : ℕ) → length (erase_order (map_of st) list) ≤ n
-    → ((k : ℕ) → (step st v (accept_erase list)).answer ≡ refused k → step st v (erase_blocks list) ≡ result (refused k) st v [])
+    → ((k : ℕ) → (step st v (accept_erase list)).answer ≡ refused k → step st v (erase_blocks list) ≡ result_of (refused k) st v [])
     × ((job : ℕ) → (step st v (accept_erase list)).answer ≡ success (job ∷ [])
     → step (step st v (accept_erase list)).state (step st v (accept_erase list)).volume (carry_erase list job n) ≡ step st v (erase_blocks list))
 two_operations = Jobs.two_operations
@@ -567,29 +567,29 @@ given-answered = Jobs.given-answered
 
 -- "carrying on gives 111, 5, 15, then 2 for a bad list or a job that this map and list never give", and acceptance as before: 111 is `order_111`, then 5
 pub jobs_5 : (st : State) (v list : List ℕ) → unlawful st ≡ false → length v < st.length
-    → (step st v (accept_erase list) ≡ result (refused 5) st v []) × ((job n : ℕ) → step st v (carry_erase list job n) ≡ result (refused 5) st v [])
+    → (step st v (accept_erase list) ≡ result_of (refused 5) st v []) × ((job n : ℕ) → step st v (carry_erase list job n) ≡ result_of (refused 5) st v [])
 jobs_5 = Jobs.jobs_5
 
 -- then 15
 pub jobs_15 : (st : State) (v list : List ℕ) → unlawful st ≡ false → st.length ≤ length v → flag st.attributes write_status ≡ false
-    → (step st v (accept_erase list) ≡ result (refused 15) st v []) × ((job n : ℕ) → step st v (carry_erase list job n) ≡ result (refused 15) st v [])
+    → (step st v (accept_erase list) ≡ result_of (refused 15) st v []) × ((job n : ℕ) → step st v (carry_erase list job n) ≡ result_of (refused 15) st v [])
 jobs_15 = Jobs.jobs_15
 
 -- then 2: a bad list, and a job that is not given
 pub jobs_2 : (st : State) (v list : List ℕ) → unlawful st ≡ false → st.length ≤ length v → flag st.attributes write_status ≡ true
     → good_list (blocks (map_of st)) list ≡ false
-    → (step st v (accept_erase list) ≡ result (refused 2) st v []) × ((job n : ℕ) → step st v (carry_erase list job n) ≡ result (refused 2) st v [])
+    → (step st v (accept_erase list) ≡ result_of (refused 2) st v []) × ((job n : ℕ) → step st v (carry_erase list job n) ≡ result_of (refused 2) st v [])
 jobs_2 = Jobs.jobs_2
 
 pub jobs_2_job : (st : State) (v list : List ℕ) → unlawful st ≡ false → st.length ≤ length v → flag st.attributes write_status ≡ true
-    → good_list (blocks (map_of st)) list ≡ true → (job n : ℕ) → job_given (map_of st) list job ≡ false → step st v (carry_erase list job n) ≡ result (refused 2) st v []
+    → good_list (blocks (map_of st)) list ≡ true → (job n : ℕ) → job_given (map_of st) list job ≡ false → step st v (carry_erase list job n) ≡ result_of (refused 2) st v []
 jobs_2_job = Jobs.jobs_2_job
 
 -- then "15 for a protected block .. anywhere in the erase list, after every 2, at both steps of g) too" (02, j)
 pub jobs_15_protected : (st : State) (v list : List ℕ) → unlawful st ≡ false → st.length ≤ length v → flag st.attributes write_status ≡ true
     → good_list (blocks (map_of st)) list ≡ true → (b : ℕ) → T (names list b) → st.protected ≤ b
-    → (step st v (accept_erase list) ≡ result (refused 15) st v [])
-    × ((job n : ℕ) → job_given (map_of st) list job ≡ true → step st v (carry_erase list job n) ≡ result (refused 15) st v [])
+    → (step st v (accept_erase list) ≡ result_of (refused 15) st v [])
+    × ((job n : ℕ) → job_given (map_of st) list job ≡ true → step st v (carry_erase list job n) ≡ result_of (refused 15) st v [])
 jobs_15_protected = Jobs.jobs_15_protected
 
 -- "The supply fails in thunderstorms": after `made` stores of an accepted list, carrying on from an earlier job, to the cut or past it, answers and leaves what carrying

@@ -164,16 +164,16 @@ pub record Result : Type 0 where
   pub volume : List ℕ
   pub buffer : List ℕ
 
-abbrev pub result : Answer → State → List ℕ → List ℕ → Result
-result answer st volume buffer = record { answer = answer; state = st; volume = volume; buffer = buffer }
+abbrev pub result_of : Answer → State → List ℕ → List ℕ → Result
+result_of answer st volume buffer = record { answer = answer; state = st; volume = volume; buffer = buffer }
 
 -- the effect carried out
 unfoldable pub perform : State → List ℕ → List ℕ → Effect → Result
-perform st volume buffer (reply a) = result a st volume buffer
-perform st volume buffer (set_to next a) = result a next volume buffer
-perform st volume buffer (copy_out at count a) = result a st volume (take count (drop at volume) ++ drop count buffer)
+perform st volume buffer (reply a) = result_of a st volume buffer
+perform st volume buffer (set_to next a) = result_of a next volume buffer
+perform st volume buffer (copy_out at count a) = result_of a st volume (take count (drop at volume) ++ drop count buffer)
 perform st volume buffer (change f a) =
-    result a st (edit (λ i old. changed_byte st.attributes (f i) old) 0 volume) buffer
+    result_of a st (edit (λ i old. changed_byte st.attributes (f i) old) 0 volume) buffer
 
 -- the reader's buffer of a call; calls other than a read have none
 unfoldable pub buffer_of : Call → List ℕ

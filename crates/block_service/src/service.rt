@@ -11,7 +11,7 @@ ghost use Rattle.volume.specs.BlockMap.{blocks, bytes, max_length, max_blocks};
 ghost use Rattle.volume.specs.State.{state_with};
 ghost use Rattle.block_service.specs.Carry.{refused_with, Progressed};
 ghost use Rattle.block_service.specs.Erase.{good_list, list_words, whole_list};
-ghost use Rattle.block_service.specs.Service.{step, result, settings_answer, address_answer, block_size_answer, moved_answer, erased_answer, protection_answer};
+ghost use Rattle.block_service.specs.Service.{step, result_of, settings_answer, address_answer, block_size_answer, moved_answer, erased_answer, protection_answer};
 ghost use Rattle.block_service.specs.Service.{get_attributes, set_attributes, get_physical_address, get_block_size, erase_blocks, protect_blocks};
 ghost use Rattle.block_service.specs.Service.{lent_refusals, reach_of, refusal_of, move_answer, accept_erase, carry_erase, accepted_answer, progress_answer};
 ghost use Rattle.block_service.specs.Service as Calls;
@@ -101,7 +101,7 @@ pub struct NewProtection {
 
 // Reads the settings. Refused with 111.
 pub fn get_attributes(st: State) -> Settings
-    ensures* { λ r. ⌜ ((v : List ℕ) → result (settings_answer r) st v [] ≡ step st v get_attributes) ⌝ }
+    ensures { (v : List ℕ) → result_of (settings_answer result) st v [] ≡ step st v get_attributes }
 {
     let map = st.map;
     if unlawful_state(
@@ -122,7 +122,7 @@ pub fn get_attributes(st: State) -> Settings
 // changes that may not; with 15 where the settings are locked and any bit changes, in edition 2 also where a locked status
 // changes or its lock is lowered; with 2 where a change lacks its capability. Nothing is stored in the volume.
 pub fn set_attributes(st: State, new: u32) -> NewSettings
-    ensures* { λ r. ⌜ ((v : List ℕ) → result (settings_answer r.answer) r.state v [] ≡ step st v (set_attributes new)) ⌝ }
+    ensures { (v : List ℕ) → result_of (settings_answer result.answer) result.state v [] ≡ step st v (set_attributes new) }
 {
     let map = st.map;
     if unlawful_state(
@@ -168,7 +168,7 @@ pub fn set_attributes(st: State, new: u32) -> NewSettings
 
 // The address of a memory-mapped volume. Refused with 111, or 3 where it is not mapped.
 pub fn get_physical_address(st: State) -> Address
-    ensures* { λ r. ⌜ ((v : List ℕ) → result (address_answer r) st v [] ≡ step st v get_physical_address) ⌝ }
+    ensures { (v : List ℕ) → result_of (address_answer result) st v [] ≡ step st v get_physical_address }
 {
     let map = st.map;
     if unlawful_state(
@@ -191,7 +191,7 @@ pub fn get_physical_address(st: State) -> Address
 // A block's length, and the number of consecutive blocks of that length from it on, itself included, through
 // neighbouring map entries too. Refused with 111, or 2 where there is no such block.
 pub fn get_block_size(st: State, block: u64) -> BlockSize
-    ensures* { λ r. ⌜ ((v : List ℕ) → result (block_size_answer r) st v [] ≡ step st v (get_block_size block)) ⌝ }
+    ensures { (v : List ℕ) → result_of (block_size_answer result) st v [] ≡ step st v (get_block_size block) }
 {
     let map = st.map;
     if unlawful_state(
@@ -223,7 +223,7 @@ pub fn get_block_size(st: State, block: u64) -> BlockSize
 // Reads from an offset of a block into the start of the buffer; the rest of the buffer stays. Refused with 111, 5, 15
 // (reads are disabled) or 2 (no such block), and then the whole buffer stays.
 pub fn read(st: State, volume: &[u8], block: u64, offset: usize, buffer: &mut [u8]) -> Moved
-    ensures* { λ r. ⌜ result (moved_answer r) st volume.now buffer.new ≡ step st volume.now (Calls.read block offset buffer.old) ⌝ }
+    ensures { result_of (moved_answer result) st volume.now buffer.new ≡ step st volume.now (Calls.read block offset buffer.old) }
 {
     let map = st.map;
     let reached = reach_block(
@@ -254,7 +254,7 @@ pub fn read(st: State, volume: &[u8], block: u64, offset: usize, buffer: &mut [u
 // changes. Refused with 111, 5, 15 (writes are disabled), 2 (no such block) or 15 (the block is protected), and then no
 // byte changes.
 pub fn write(st: State, volume: &mut [u8], block: u64, offset: usize, new: &[u8]) -> Moved
-    ensures* { λ r. ⌜ result (moved_answer r) st volume.new [] ≡ step st volume.old (Calls.write block offset new.now) ⌝ }
+    ensures { result_of (moved_answer result) st volume.new [] ≡ step st volume.old (Calls.write block offset new.now) }
 {
     let map = st.map;
     let reached = reach_block(
@@ -286,7 +286,7 @@ pub fn write(st: State, volume: &mut [u8], block: u64, offset: usize, new: &[u8]
 // is stored, so that a refusal changes none. Costs two passes over the list, a map scan for each run of blocks not named before, and their
 // bytes; from the first pair on that starts before the end of an earlier one, also a mark for each block named, 8 KiB in all.
 pub fn erase_blocks(st: State, volume: &mut [u8], list: &[u64]) -> Erased
-    ensures* { λ r. ⌜ result (erased_answer r) st volume.new [] ≡ step st volume.old (erase_blocks list.now) ⌝ }
+    ensures { result_of (erased_answer result) st volume.new [] ≡ step st volume.old (erase_blocks list.now) }
 {
     let none = [0u8; 0];
     erase(st, volume, list, &none)
@@ -294,7 +294,7 @@ pub fn erase_blocks(st: State, volume: &mut [u8], list: &[u64]) -> Erased
 
 // The same with a list that comes as bytes, eight to a word, the lowest first; a part word at the end is ignored.
 pub fn erase_byte_list(st: State, volume: &mut [u8], list: &[u8]) -> Erased
-    ensures* { λ r. ⌜ result (erased_answer r) st volume.new [] ≡ step st volume.old (erase_blocks (list_words list.now)) ⌝ }
+    ensures { result_of (erased_answer result) st volume.new [] ≡ step st volume.old (erase_blocks (list_words list.now)) }
 {
     let none = [0u64; 0];
     erase(st, volume, &none, list)
@@ -304,7 +304,7 @@ pub fn erase_byte_list(st: State, volume: &mut [u8], list: &[u8]) -> Erased
 // names them, bytes upward, each once. Refused as the erase is: with 111, 5, 15 (writes are disabled), 2 (a bad list) or 15 (a block of
 // the list is protected). The job is 0 for every list that is accepted. Costs one pass over the list.
 pub fn accept_erase(st: State, volume: &[u8], list: &[u64]) -> Accepted
-    ensures* { λ r. ⌜ result (accepted_answer r) st volume.now [] ≡ step st volume.now (accept_erase list.now) ⌝ }
+    ensures { result_of (accepted_answer result) st volume.now [] ≡ step st volume.now (accept_erase list.now) }
 {
     let none = [0u8; 0];
     accept(st, volume, list, &none)
@@ -312,7 +312,7 @@ pub fn accept_erase(st: State, volume: &[u8], list: &[u64]) -> Accepted
 
 // The same with a list that comes as bytes, eight to a word, the lowest first; a part word at the end is ignored.
 pub fn accept_byte_list(st: State, volume: &[u8], list: &[u8]) -> Accepted
-    ensures* { λ r. ⌜ result (accepted_answer r) st volume.now [] ≡ step st volume.now (accept_erase (list_words list.now)) ⌝ }
+    ensures { result_of (accepted_answer result) st volume.now [] ≡ step st volume.now (accept_erase (list_words list.now)) }
 {
     let none = [0u64; 0];
     accept(st, volume, &none, list)
@@ -324,7 +324,7 @@ pub fn accept_byte_list(st: State, volume: &[u8], list: &[u8]) -> Accepted
 // list is protected), and then no byte changes. Costs three passes over the list, in the last two a map scan for each run of blocks not named
 // before, and the bytes that it stores; the marks are those of the erase.
 pub fn carry_erase(st: State, volume: &mut [u8], list: &[u64], job: u64, stores: u64) -> Progress
-    ensures* { λ r. ⌜ result (progress_answer r) st volume.new [] ≡ step st volume.old (carry_erase list.now job stores) ⌝ }
+    ensures { result_of (progress_answer result) st volume.new [] ≡ step st volume.old (carry_erase list.now job stores) }
 {
     let none = [0u8; 0];
     carry(st, volume, list, &none, job, stores)
@@ -332,7 +332,7 @@ pub fn carry_erase(st: State, volume: &mut [u8], list: &[u64], job: u64, stores:
 
 // The same with a list that comes as bytes.
 pub fn carry_byte_list(st: State, volume: &mut [u8], list: &[u8], job: u64, stores: u64) -> Progress
-    ensures* { λ r. ⌜ result (progress_answer r) st volume.new [] ≡ step st volume.old (carry_erase (list_words list.now) job stores) ⌝ }
+    ensures { result_of (progress_answer result) st volume.new [] ≡ step st volume.old (carry_erase (list_words list.now) job stores) }
 {
     let none = [0u64; 0];
     carry(st, volume, &none, list, job, stores)
@@ -343,7 +343,7 @@ pub fn carry_byte_list(st: State, volume: &mut [u8], list: &[u8], job: u64, stor
 // would be raised. No attribute and no lock is asked. Nothing is stored in the volume: an older copy of the state, and the
 // volume opened anew, know nothing of it.
 pub fn protect_blocks(st: State, first: u64) -> NewProtection
-    ensures* { λ r. ⌜ ((v : List ℕ) → result (protection_answer r.answer) r.state v [] ≡ step st v (protect_blocks first)) ⌝ }
+    ensures { (v : List ℕ) → result_of (protection_answer result.answer) result.state v [] ≡ step st v (protect_blocks first) }
 {
     let map = st.map;
     if unlawful_state(
@@ -377,8 +377,8 @@ pub fn protect_blocks(st: State, first: u64) -> NewProtection
 // An erase with a list of which the first words come as words and those after them as bytes: accepted, and then carried on to the end. The list is read only where
 // 111, 5 and 15 do not refuse.
 fn erase(st: State, volume: &mut [u8], list: &[u64], tail: &[u8]) -> Erased
-    ensures* { λ r. ⌜ result (erased_answer r) st volume.new []
-        ≡ step st volume.old (erase_blocks (whole_list list.now tail.now)) ⌝ }
+    ensures { result_of (erased_answer result) st volume.new []
+        ≡ step st volume.old (erase_blocks (whole_list list.now tail.now)) }
 {
     let map = st.map;
     let lent = lent_refusal(
@@ -416,8 +416,8 @@ fn erase(st: State, volume: &mut [u8], list: &[u64], tail: &[u8]) -> Erased
 
 // An acceptance of such a list.
 fn accept(st: State, volume: &[u8], list: &[u64], tail: &[u8]) -> Accepted
-    ensures* { λ r. ⌜ result (accepted_answer r) st volume.now []
-        ≡ step st volume.now (accept_erase (whole_list list.now tail.now)) ⌝ }
+    ensures { result_of (accepted_answer result) st volume.now []
+        ≡ step st volume.now (accept_erase (whole_list list.now tail.now)) }
 {
     let map = st.map;
     let lent = lent_refusal(
@@ -444,8 +444,8 @@ fn accept(st: State, volume: &[u8], list: &[u64], tail: &[u8]) -> Accepted
 
 // A carrying on with such a list.
 fn carry(st: State, volume: &mut [u8], list: &[u64], tail: &[u8], job: u64, stores: u64) -> Progress
-    ensures* { λ r. ⌜ result (progress_answer r) st volume.new []
-        ≡ step st volume.old (carry_erase (whole_list list.now tail.now) job stores) ⌝ }
+    ensures { result_of (progress_answer result) st volume.new []
+        ≡ step st volume.old (carry_erase (whole_list list.now tail.now) job stores) }
 {
     let map = st.map;
     let lent = lent_refusal(
@@ -475,7 +475,7 @@ fn carry(st: State, volume: &mut [u8], list: &[u64], tail: &[u8], job: u64, stor
 
 // Whether a call is refused with this number.
 fn refused_with(check: Check, number: u16) -> bool
-    ensures* { λ r. ⌜ r ≡ refused_with number (refusal_of check) ⌝ }
+    ensures { result ≡ refused_with number (refusal_of check) }
 {
     if let Check::Refused(n) = check {
         return n == number;
@@ -497,7 +497,7 @@ fn carry_good(
     requires words_bound { (bytes words.now ≤ max_length) × (blocks words.now ≤ max_blocks) }
     requires words_in_bounds { bytes words.now ≤ length volume.old }
     requires tail_value { good_list (blocks words.now) (whole_list list.now tail.now) ≡ true }
-    ensures* { λ r. ⌜ Progressed words.now (whole_list list.now tail.now) value reached job stores volume.old r volume.new ⌝ }
+    ensures { Progressed words.now (whole_list list.now tail.now) value reached job stores volume.old result volume.new }
 {
     let all = carry_list(words, volume, list, tail, value, 0, 0);
     let from = job as usize;
@@ -520,7 +520,7 @@ fn carry_good(
 
 // Whether a list whose order has so many bytes gives this job.
 fn job_given(all: usize, job: usize) -> bool
-    ensures* { λ r. ⌜ r ≡ (eqb job 0 || ltb job all) ⌝ }
+    ensures { result ≡ (eqb job 0 || ltb job all) }
 {
     if job == 0 {
         return true;
@@ -553,7 +553,7 @@ fn reach_block(
     limit: u64,
     block: u64,
 ) -> Reach
-    ensures* { λ r. ⌜ ((guid : List ℕ) → r ≡ reach_of (state_with guid length attributes base edition protected entries map.now) volume_len status limit block) ⌝ }
+    ensures { (guid : List ℕ) → result ≡ reach_of (state_with guid length attributes base edition protected entries map.now) volume_len status limit block }
 {
     let first = lent_refusal(
         length, attributes, base, edition, protected, entries, map, volume_len, status,
@@ -590,7 +590,7 @@ pub(crate) fn lent_refusal(
     volume_len: u64,
     status: u32,
 ) -> Check
-    ensures* { λ r. ⌜ ((guid : List ℕ) → refusal_of r ≡ first_refusal (lent_refusals (state_with guid len attributes base edition protected entries map.now) volume_len status)) ⌝ }
+    ensures { (guid : List ℕ) → refusal_of result ≡ first_refusal (lent_refusals (state_with guid len attributes base edition protected entries map.now) volume_len status) }
 {
     if unlawful_state(len, attributes, base, edition, protected, entries, map) {
         return Check::Refused(111);
@@ -606,7 +606,7 @@ pub(crate) fn lent_refusal(
 
 // The answer to a move of `count` of n bytes.
 pub(crate) fn move_answer(count: usize, n: usize) -> Moved
-    ensures* { λ r. ⌜ moved_answer r ≡ move_answer count n ⌝ }
+    ensures { moved_answer result ≡ move_answer count n }
 {
     if count == n {
         return Moved::Success(count);

@@ -8,7 +8,7 @@ use Rattle.volume.specs.declared.header.Opening.{Opening}
 use Rattle.volume.specs.declared.header.Opening.TheVariants as Opening
 use Rattle.volume.specs.declared.state.State.{State}
 use Rattle.block_service.specs.Erase.{end_of_list}
-use Rattle.block_service.specs.Service.{Result, erased_answer, result, step, erase_blocks, write}
+use Rattle.block_service.specs.Service.{Result, erased_answer, result_of, step, erase_blocks, write}
 use Rattle.block_service.specs.declared.service.Erased.{Erased}
 use Rattle.block_service.specs.declared.service.Erased.TheVariants as Erased
 use Rattle.block_service.proofs.service.Steps.{refused_changes_nothing}
@@ -21,7 +21,7 @@ module _ (v mask : List ℕ) (base block : ℕ) (opening : Opening) (st : State)
   open_refused n told = rw (← o, told)
 
   module _ (success-told : opening ≡ Opening.Success) (erasing : Erased) (erased : List ℕ)
-      (e : result (erased_answer erasing) st erased [] ≡ step st v (erase_blocks (block ∷ 1 ∷ end_of_list ∷ []))) where
+      (e : result_of (erased_answer erasing) st erased [] ≡ step st v (erase_blocks (block ∷ 1 ∷ end_of_list ∷ []))) where
     -- the erase is refused: it left the volume as it was
     pub erase_refused : (n : ℕ) → erasing ≡ Erased.Refused n → masked (refused n) erased ≡ put_mask v base block mask
     unfolding put_mask opening_answer erased_answer
@@ -31,7 +31,7 @@ module _ (v mask : List ℕ) (base block : ℕ) (opening : Opening) (st : State)
         rw (same, ← o, success-told, ← e, told)
 
     -- the erase succeeds: the answer is the write's
-    pub mask_written : erasing ≡ Erased.Success → (a : Answer) (written : List ℕ) → result a st written [] ≡ step st erased (write block 0 mask)
+    pub mask_written : erasing ≡ Erased.Success → (a : Answer) (written : List ℕ) → result_of a st written [] ≡ step st erased (write block 0 mask)
         → masked a written ≡ put_mask v base block mask
     unfolding put_mask opening_answer erased_answer
     mask_written told a written w = rw (← o, success-told, ← e, told, ← w)

@@ -20,7 +20,7 @@ use Rattle.volume.specs.declared.state.State.{State}
 use Rattle.block_service.specs.Access.{erased_byte}
 use Rattle.block_service.specs.Carry.{filled}
 use Rattle.block_service.specs.Order.{member, part, erase_order, job_given, finishes}
-use Rattle.block_service.specs.Service.{Call, erase_blocks, accept_erase, carry_erase, refusals, carry_answer, Result, result, step}
+use Rattle.block_service.specs.Service.{Call, erase_blocks, accept_erase, carry_erase, refusals, carry_answer, Result, result_of, step}
 use Rattle.volume.proofs.header.Reading.{header_only}
 use Rattle.block_service.proofs.carry.Fills.{length-filled}
 use Rattle.block_service.proofs.carry.OrderLists.{member-append, part_all, part-add, part-member}
@@ -93,7 +93,7 @@ module _ (st : State) (v list values : List ℕ) (accepted : (step st v (accept_
 
   -- a call that carries on and is not refused
   carried_on : (u : List ℕ) (next : State) → Fits st next → (job n : ℕ) → first_refusal (refusals next (length u) (carry_erase list job n)) ≡ none
-      → step next u (carry_erase list job n) ≡ result (carry_answer (finishes (map_of st) list job n) (job + n)) next (filled x (part job (job + n) O) u) []
+      → step next u (carry_erase list job n) ≡ result_of (carry_answer (finishes (map_of st) list job n) (job + n)) next (filled x (part job (job + n) O) u) []
   carried_on u next fits job n e =
       carries next u list job n e ∙ rw (carried-filled next.attributes (map_of next) list job n u, fits.map, fits.value)
 
@@ -166,7 +166,7 @@ module _ (st : State) (v list values : List ℕ) (accepted : (step st v (accept_
   -- ---- carried on to the end
 
   -- what the whole erase leaves
-  erase_left : step st v (erase_blocks list) ≡ result (success []) st (filled x O v) []
+  erase_left : step st v (erase_blocks list) ≡ result_of (success []) st (filled x O v) []
   unfolding job_given finishes carry_answer
   erase_left =
       sym (carried_out st v list values accepted (length O) (omega arith))
@@ -194,16 +194,16 @@ module _ (st : State) (v list values : List ℕ) (accepted : (step st v (accept_
 
   to_the_end : (u : List ℕ) (k : ℕ) → Held u k → (next : State) → Fits st next → (job n : ℕ) → job ≤ k → length O ≤ job + n
       → first_refusal (refusals next (length u) (carry_erase list job n)) ≡ none
-      → step next u (carry_erase list job n) ≡ result (success []) next (filled x O v) []
+      → step next u (carry_erase list job n) ≡ result_of (success []) next (filled x O v) []
   unfolding finishes carry_answer
   to_the_end u k h next fits job n jk out e = carried_on u next fits job n e ∙ rw (le-leb (length O) (job + n) out, stored_out u k job n h jk out)
 
   pub cuts_mended : {u : List ℕ} {k : ℕ} → Interrupted st list v u k → (next : State) → Fits st next → (job n : ℕ) → job ≤ k
       → length (erase_order (map_of st) list) ≤ job + n → ((number : ℕ) → (step next u (carry_erase list job n)).answer ≡ refused number → ⊥)
-      → step next u (carry_erase list job n) ≡ result (success []) next (step st v (erase_blocks list)).volume []
+      → step next u (carry_erase list job n) ≡ result_of (success []) next (step st v (erase_blocks list)).volume []
   cuts_mended {u} {k} r next fits job n jk out free =
       to_the_end u k (held r) next fits job n jk out (passed next u (carry_erase list job n) free)
-      ∙ ap (λ (y : Result). result (success []) next y.volume []) (sym erase_left)
+      ∙ ap (λ (y : Result). result_of (success []) next y.volume []) (sym erase_left)
 
   -- with the state that accepted the list no job that is given is refused
   pub cuts_mended_same : {u : List ℕ} {k : ℕ} → Interrupted st list v u k → (job n : ℕ) → job ≤ k → length (erase_order (map_of st) list) ≤ job + n
@@ -341,7 +341,7 @@ module _ (breaks : Breaks) (st : State) (v list : List ℕ) (calls : List Call) 
         → ((i : ℕ) → member i (part k (k + m) (erase_order (map_of st) list)) ≡ false → get_or u i 0 ≡ get_or e.volume i 0)
         → (next : State) → Fits st next → (job n : ℕ) → job ≤ k → length (erase_order (map_of st) list) ≤ job + n
         → ((number : ℕ) → (step next u (carry_erase list job n)).answer ≡ refused number → ⊥)
-        → step next u (carry_erase list job n) ≡ result (success []) next (step st v (erase_blocks list)).volume []
+        → step next u (carry_erase list job n) ≡ result_of (success []) next (step st v (erase_blocks list)).volume []
     carried_through_cut k q u m long same =
         cuts_mended st v list (0 ∷ []) (was_accepted (pending k) (λ h. let z : ◌≡◌ {A = ℕ} 0 1 = cc in omega arith) q)
         (cut (interrupted_run.0 k q) k m (omega arith) u (long ∙ sym (run_length st v (accept_erase list ∷ calls))) same)
@@ -350,7 +350,7 @@ module _ (breaks : Breaks) (st : State) (v list : List ℕ) (calls : List Call) 
     pub carried_through : (k : ℕ) → standing breaks list (accepted r.answer) r.state r.volume calls ≡ pending k
         → (job n : ℕ) → job ≤ k → length (erase_order (map_of st) list) ≤ job + n
         → ((number : ℕ) → (step e.state e.volume (carry_erase list job n)).answer ≡ refused number → ⊥)
-        → step e.state e.volume (carry_erase list job n) ≡ result (success []) e.state (step st v (erase_blocks list)).volume []
+        → step e.state e.volume (carry_erase list job n) ≡ result_of (success []) e.state (step st v (erase_blocks list)).volume []
     carried_through k q =
         let c = accept_erase list ∷ calls in
         carried_through_cut k q e.volume 0 (run_length st v c) (λ i h. refl) e.state (run_fits st v c).0
@@ -359,7 +359,7 @@ module _ (breaks : Breaks) (st : State) (v list : List ℕ) (calls : List Call) 
     pub carried_through_finished : standing breaks list (accepted r.answer) r.state r.volume calls ≡ finished
         → (next : State) → Fits st next → (job n : ℕ) → length (erase_order (map_of st) list) ≤ job + n
         → ((number : ℕ) → (step next e.volume (carry_erase list job n)).answer ≡ refused number → ⊥)
-        → step next e.volume (carry_erase list job n) ≡ result (success []) next (step st v (erase_blocks list)).volume []
+        → step next e.volume (carry_erase list job n) ≡ result_of (success []) next (step st v (erase_blocks list)).volume []
     carried_through_finished q next f job n out free =
         let given = (carry_passed next (length e.volume) list job n (passed next e.volume (carry_erase list job n) free)).1 in
         cuts_mended st v list (0 ∷ []) (was_accepted finished (λ h. let z : ◌≡◌ {A = ℕ} 0 1 = cc in omega arith) q) (interrupted_run.1 q) next f job n

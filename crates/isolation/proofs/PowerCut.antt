@@ -17,7 +17,7 @@ use Rattle.volume.specs.declared.state.State.{State}
 use Rattle.block_service.specs.Access.{erased_byte}
 use Rattle.block_service.specs.Carry.{filled}
 use Rattle.block_service.specs.Order.{member, part, erase_order, finishes}
-use Rattle.block_service.specs.Service.{Call, get_attributes, set_attributes, get_physical_address, get_block_size, read, protect_blocks, accept_erase, carry_erase, refusals, effect, carry_answer, Result, result, perform, buffer_of, step}
+use Rattle.block_service.specs.Service.{Call, get_attributes, set_attributes, get_physical_address, get_block_size, read, protect_blocks, accept_erase, carry_erase, refusals, effect, carry_answer, Result, result_of, perform, buffer_of, step}
 use Rattle.block_service.proofs.carry.Fills.{filled_none, filled-append}
 use Rattle.block_service.proofs.carry.OrderLists.{part_none, part-add}
 use Rattle.block_service.proofs.carry.Portions.{carried-filled, filled_byte}
@@ -86,7 +86,7 @@ module _ (st : State) (v list : List ℕ) where
       F : Result → Type 0
       F r = r.volume ≡ filled x (part job (job + stores_of st (carry_erase list job n) r.answer) O) v
 
-      by : (t : Bool) (w : List ℕ) → w ≡ filled x (part job (job + n) O) v → F (result (carry_answer t (job + n)) st w [])
+      by : (t : Bool) (w : List ℕ) → w ≡ filled x (part job (job + n) O) v → F (result_of (carry_answer t (job + n)) st w [])
       by true w e = e ∙ rw (part_left O job n)
       by false w e = e ∙ rw (part_left O job n)
 
@@ -208,8 +208,8 @@ run_length st v [] = refl
 run_length st v (c ∷ cs) = run_length (step st v c).state (step st v c).volume cs ∙ length_kept st v c
 
 -- an acceptance answers the job 0 and leaves all as it was, or is refused
-pub accept_cases : (P : Result → Type 0) (st : State) (v list : List ℕ) → (first_refusal (refusals st (length v) (accept_erase list)) ≡ none → P (result (success (0 ∷ [])) st v []))
-    → ((n : ℕ) → P (result (refused n) st v [])) → P (step st v (accept_erase list))
+pub accept_cases : (P : Result → Type 0) (st : State) (v list : List ℕ) → (first_refusal (refusals st (length v) (accept_erase list)) ≡ none → P (result_of (success (0 ∷ [])) st v []))
+    → ((n : ℕ) → P (result_of (refused n) st v [])) → P (step st v (accept_erase list))
 unfolding perform effect buffer_of
 accept_cases P st v list answers refuses = go (first_refusal (refusals st (length v) (accept_erase list))) refl
   where

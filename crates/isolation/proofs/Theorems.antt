@@ -13,7 +13,7 @@ use Rattle.volume.specs.declared.state.State.{State}
 use Rattle.block_service.specs.Access.{erased_byte}
 use Rattle.block_service.specs.Blocks.{in_block}
 use Rattle.block_service.specs.Order.{member, part, erase_order, job_given}
-use Rattle.block_service.specs.Service.{Call, get_attributes, set_attributes, get_physical_address, get_block_size, read, erase_blocks, protect_blocks, accept_erase, carry_erase, result, step}
+use Rattle.block_service.specs.Service.{Call, get_attributes, set_attributes, get_physical_address, get_block_size, read, erase_blocks, protect_blocks, accept_erase, carry_erase, result_of, step}
 use Rattle.isolation.specs.Bytes.{erased_in_run, Agree, Unread, IsolatedBytes}
 use Rattle.isolation.specs.PowerCut.{NothingElseStored, stores_made, Fits, Interrupted, in_header}
 use Rattle.isolation.specs.Runs.{run, Breaks, strayed, touched, never, pending, finished, accepted, standing, erased_by, Alike, NoEarlyReadBy, IsolatedBy, NoEarlyRead, Isolated}
@@ -129,7 +129,7 @@ refused_quiet = PowerCut.refused_quiet
 pub cuts_mended : (st : State) (v list values : List ℕ) → (step st v (accept_erase list)).answer ≡ success values → {u : List ℕ} {k : ℕ} → Interrupted st list v u k
     → (next : State) → Fits st next → (job n : ℕ) → job ≤ k → length (erase_order (map_of st) list) ≤ job + n
     → ((number : ℕ) → (step next u (carry_erase list job n)).answer ≡ refused number → ⊥)
-    → step next u (carry_erase list job n) ≡ result (success []) next (step st v (erase_blocks list)).volume []
+    → step next u (carry_erase list job n) ≡ result_of (success []) next (step st v (erase_blocks list)).volume []
 cuts_mended = Cuts.cuts_mended
 
 -- with the state that accepted the list it is not refused, where the job is one that this map and list give: it is the whole erase
@@ -175,7 +175,7 @@ pub carried_through : (st : State) (v list : List ℕ) (calls : List Call)
     → (job n : ℕ) → job ≤ k → length (erase_order (map_of st) list) ≤ job + n
     → let e = run st v (accept_erase list ∷ calls) in
     ((number : ℕ) → (step e.state e.volume (carry_erase list job n)).answer ≡ refused number → ⊥)
-    → step e.state e.volume (carry_erase list job n) ≡ result (success []) e.state (step st v (erase_blocks list)).volume []
+    → step e.state e.volume (carry_erase list job n) ≡ result_of (success []) e.state (step st v (erase_blocks list)).volume []
 carried_through = Cuts.carried_through strayed
 
 -- so it does after a reboot, with any state that has the map and the erase value, as a state that was kept has; and after a cut inside a call that carried the job on
@@ -188,7 +188,7 @@ pub carried_through_cut : (st : State) (v list : List ℕ) (calls : List Call)
     → ((i : ℕ) → member i (part k (k + m) (erase_order (map_of st) list)) ≡ false → get_or u i 0 ≡ get_or (run st v (accept_erase list ∷ calls)).volume i 0)
     → (next : State) → Fits st next → (job n : ℕ) → job ≤ k → length (erase_order (map_of st) list) ≤ job + n
     → ((number : ℕ) → (step next u (carry_erase list job n)).answer ≡ refused number → ⊥)
-    → step next u (carry_erase list job n) ≡ result (success []) next (step st v (erase_blocks list)).volume []
+    → step next u (carry_erase list job n) ≡ result_of (success []) next (step st v (erase_blocks list)).volume []
 carried_through_cut = Cuts.carried_through_cut strayed
 
 -- and where the job has answered finished, of which the loader may not know, carrying on to the end from any job (one that is not given is refused) does so too
@@ -199,7 +199,7 @@ pub carried_through_finished : (st : State) (v list : List ℕ) (calls : List Ca
     → let u = (run st v (accept_erase list ∷ calls)).volume in
     (next : State) → Fits st next → (job n : ℕ) → length (erase_order (map_of st) list) ≤ job + n
     → ((number : ℕ) → (step next u (carry_erase list job n)).answer ≡ refused number → ⊥)
-    → step next u (carry_erase list job n) ≡ result (success []) next (step st v (erase_blocks list)).volume []
+    → step next u (carry_erase list job n) ≡ result_of (success []) next (step st v (erase_blocks list)).volume []
 carried_through_finished = Cuts.carried_through_finished strayed
 
 -- ---- runs from opening, locks and protected blocks

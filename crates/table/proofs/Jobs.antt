@@ -8,7 +8,7 @@ use lib.ListN.{set}
 use Rattle.common.specs.Answers.{refused, success, short}
 use Rattle.block_service.specs.Erase.{end_of_list}
 use Rattle.block_service.specs.Order.{up_from, member, firsts, part, named_blocks, bytes_of, erase_order, job_given, carry_change, finishes}
-use Rattle.block_service.specs.Service.{Call, result, set_attributes, write, erase_blocks, protect_blocks, accept_erase, carry_erase, carry_answer}
+use Rattle.block_service.specs.Service.{Call, result_of, set_attributes, write, erase_blocks, protect_blocks, accept_erase, carry_erase, carry_answer}
 use Rattle.isolation.specs.Runs.{is_success, is_moved, names_block, same_list, carries_on, carries_other, wrote_to, touched, strayed, never, accepted, answered, after, standing, is_finished, job_erases, erased_by, erased}
 use Rattle.table.specs.SampleA.{sample_a}
 use Rattle.table.proofs.Instances.{state_a}
@@ -49,8 +49,8 @@ pub record Jobs : Type 0 where
   pub at_the_end : finishes mixed_map nested_list 3 6 ≡ true
   pub past_the_end : finishes mixed_map nested_list 3 0xFFFFFFFFFFFFFFFF ≡ true
   -- on sample A: acceptance answers 0 and changes nothing; a bad list is refused with 2
-  pub accepting : on_a (accept_erase last_block) ≡ result (success (0 ∷ [])) state_a sample_a []
-  pub accepting_bad : on_a (accept_erase (3 ∷ 2 ∷ end_of_list ∷ [])) ≡ result (refused 2) state_a sample_a []
+  pub accepting : on_a (accept_erase last_block) ≡ result_of (success (0 ∷ [])) state_a sample_a []
+  pub accepting_bad : on_a (accept_erase (3 ∷ 2 ∷ end_of_list ∷ [])) ≡ result_of (refused 2) state_a sample_a []
   -- carrying on by 0, by 511 of 512, by all, by more; from 511 by 1
   pub by_0 : (on_a (carry_erase last_block 0 0)).answer ≡ short (0 ∷ [])
   pub by_511 : (on_a (carry_erase last_block 0 511)).answer ≡ short (511 ∷ [])
@@ -60,8 +60,8 @@ pub record Jobs : Type 0 where
   -- the empty list is finished at once
   pub empty_list : (on_a (carry_erase (end_of_list ∷ []) 0 0)).answer ≡ success []
   -- a job that is not given, and one past every number: 2; with block 3 protected the job's 2 comes first, then 15
-  pub job_512 : on_a (carry_erase last_block 512 1) ≡ result (refused 2) state_a sample_a []
-  pub job_past : on_a (carry_erase last_block 0xFFFFFFFFFFFFFFFF 1) ≡ result (refused 2) state_a sample_a []
+  pub job_512 : on_a (carry_erase last_block 512 1) ≡ result_of (refused 2) state_a sample_a []
+  pub job_past : on_a (carry_erase last_block 0xFFFFFFFFFFFFFFFF 1) ≡ result_of (refused 2) state_a sample_a []
   pub protected_job : (Table.after (on_a (protect_blocks 3)) (carry_erase last_block 512 1)).answer ≡ refused 2
   pub protected_list : (Table.after (on_a (protect_blocks 3)) (carry_erase last_block 0 1)).answer ≡ refused 15
   -- of four zeros written at the start of block 3, a portion of 3 makes three FF again

@@ -6,7 +6,7 @@ use lib.ListN.{set, replicate}
 use Rattle.common.specs.Answers.{refused, success}
 use Rattle.block_service.specs.Blocks.{equal_blocks, consecutive_blocks}
 use Rattle.block_service.specs.Erase.{end_of_list}
-use Rattle.block_service.specs.Service.{Result, result, with_protected, get_attributes, get_block_size, read, write, set_attributes, erase_blocks, protect_blocks, step}
+use Rattle.block_service.specs.Service.{Result, result_of, with_protected, get_attributes, get_block_size, read, write, set_attributes, erase_blocks, protect_blocks, step}
 use Rattle.isolation.specs.Runs.{run}
 use Rattle.table.specs.SampleA.{sample_a}
 use Rattle.table.proofs.Instances.{state_a}
@@ -18,12 +18,12 @@ protected_a = on_a (protect_blocks 3)
 
 -- a call after that changes nothing, and is refused with the number
 abbrev Refuses : Result → ℕ → Type 0
-Refuses r n = r ≡ result (refused n) protected_a.state sample_a []
+Refuses r n = r ≡ result_of (refused n) protected_a.state sample_a []
 
 pub record Protected : Type 0 where
   -- protecting answers success, changes the first protected block alone, and stores nothing; at opening it is the number of blocks
   pub at_opening : state_a.protected ≡ 4
-  pub protecting : protected_a ≡ result (success []) (with_protected state_a 3) sample_a []
+  pub protecting : protected_a ≡ result_of (success []) (with_protected state_a 3) sample_a []
   -- writes of block 3 are refused with 15, one of no bytes too; block 4 is not there: 2
   pub write_3 : Refuses (after protected_a (write 3 0 (0x00 ∷ []))) 15
   pub write_none : Refuses (after protected_a (write 3 0 [])) 15

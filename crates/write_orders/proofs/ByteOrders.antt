@@ -10,7 +10,7 @@ use lib.ListN.{length, get_or, length-append}
 use Rattle.numbers.specs.LittleEndian.{le, le_bytes}
 use Rattle.numbers.proofs.LittleEndian.{le_skip, le-le_bytes, length-le_bytes}
 use Rattle.volume.specs.declared.state.State.{State}
-use Rattle.block_service.specs.Service.{moved_answer, result, step}
+use Rattle.block_service.specs.Service.{moved_answer, result_of, step}
 use Rattle.isolation.specs.Runs.{is_success}
 use Rattle.write_orders.specs.Orders.{call_of, first_stage, counted, order_bytes, order_at, orders_from, orders_in, bytes_of, list_bytes, Typed}
 use Rattle.write_orders.specs.declared.Order.{Order}
@@ -41,7 +41,7 @@ pub start_bytes : (st : State) (d v s : List ℕ) (p : Stage) → p ≡ first_st
 start_bytes st d v s p e = rw (e, sym (orders_length s)) (start_at st d v (orders_in s))
 
 pub turn_bytes : (st : State) (d v₀ v after s : List ℕ) (p next : Stage) (o : Order) → At st d v₀ (orders_in s) p v → p.going ≡ true → o ≡ order_at s p.written.count
-    → (result (moved_answer next.written.last) st after [] ≡ step st v (call_of st d o))
+    → (result_of (moved_answer next.written.last) st after [] ≡ step st v (call_of st d o))
     × (next.written.count ≡ counted (moved_answer next.written.last) p.written.count)
     × (next.going ≡ is_success (moved_answer next.written.last) && ltb (p.written.count + 1) (length s / order_bytes))
     → At st d v₀ (orders_in s) next after × (measure_of (orders_in s) next < measure_of (orders_in s) p)

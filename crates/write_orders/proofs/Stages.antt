@@ -13,7 +13,7 @@ use Rattle.common.specs.Answers.{Answer}
 use Rattle.common.specs.Refusals.{first_refusal}
 use Rattle.volume.specs.Attributes.{write_status}
 use Rattle.volume.specs.declared.state.State.{State}
-use Rattle.block_service.specs.Service.{lent_refusals, moved_answer, Result, result, step}
+use Rattle.block_service.specs.Service.{lent_refusals, moved_answer, Result, result_of, step}
 use Rattle.block_service.specs.declared.service.Moved.{Moved}
 use Rattle.block_service.specs.declared.service.Moved.TheVariants.{Success, Refused}
 use Rattle.block_service.proofs.service.Kept.{length_kept}
@@ -65,7 +65,7 @@ start_at st d v os = go os (ltb most_orders (length os)) refl (first_refusal (le
 
 -- one order's turn, from what `next` answers: the list stands where it should, and one order less is left
 pub turn_at : (st : State) (d v₀ v after : List ℕ) (os : List Order) (p next : Stage) (z : Order) → At st d v₀ os p v → p.going ≡ true
-    → result (moved_answer next.written.last) st after [] ≡ step st v (call_of st d (get_or os p.written.count z))
+    → result_of (moved_answer next.written.last) st after [] ≡ step st v (call_of st d (get_or os p.written.count z))
     → next.written.count ≡ counted (moved_answer next.written.last) p.written.count
     → next.going ≡ is_success (moved_answer next.written.last) && ltb (p.written.count + 1) (length os)
     → At st d v₀ os next after × (measure_of os next < measure_of os p)

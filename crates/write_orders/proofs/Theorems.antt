@@ -15,7 +15,7 @@ use Rattle.volume.specs.State.{map_of, unlawful}
 use Rattle.volume.specs.declared.state.State.{State}
 use Rattle.block_service.specs.Access.{count_moved}
 use Rattle.block_service.specs.Blocks.{place, in_block}
-use Rattle.block_service.specs.Service.{write, result, step}
+use Rattle.block_service.specs.Service.{write, result_of, step}
 use Rattle.block_service.specs.declared.blocks.Place.TheVariants.{At}
 use Rattle.block_service.proofs.Theorems as service
 use Rattle.block_service.proofs.service.Steps as steps
@@ -44,30 +44,30 @@ empty_list st d v = lists.within_limit st d v [] (omega arith)
 
 module _ (st : State) (d v : List ℕ) (o : Order) where
   -- 111 first
-  pub order_111 : unlawful st ≡ true → step st v (call_of st d o) ≡ result (refused 111) st v []
+  pub order_111 : unlawful st ≡ true → step st v (call_of st d o) ≡ result_of (refused 111) st v []
   order_111 e = sym (turns.lent_refused st d o v 111 (steps.lent_111 st (length v) write_status e))
 
   module _ (ok : unlawful st ≡ false) where
     -- then 5
-    pub order_5 : length v < st.length → step st v (call_of st d o) ≡ result (refused 5) st v []
+    pub order_5 : length v < st.length → step st v (call_of st d o) ≡ result_of (refused 5) st v []
     order_5 h = sym (turns.lent_refused st d o v 5 (steps.lent_5 st (length v) write_status ok h))
 
     module _ (long : st.length ≤ length v) where
       -- then 15 where writes are disabled
-      pub order_15 : flag st.attributes write_status ≡ false → step st v (call_of st d o) ≡ result (refused 15) st v []
+      pub order_15 : flag st.attributes write_status ≡ false → step st v (call_of st d o) ≡ result_of (refused 15) st v []
       order_15 off = sym (turns.lent_refused st d o v 15 (steps.lent_15 st (length v) write_status ok long off))
 
       -- "2 for an order whose stretch leaves the data buffer, at its turn, after 111, 5 and 15", whatever its block: also one that is not there or is protected
-      pub order_stretch : flag st.attributes write_status ≡ true → length d < o.first + o.len → step st v (call_of st d o) ≡ result (refused 2) st v []
+      pub order_stretch : flag st.attributes write_status ≡ true → length d < o.first + o.len → step st v (call_of st d o) ≡ result_of (refused 2) st v []
       order_stretch on h = sym (turns.bad_stretch st d o v (steps.lent_passes st (length v) write_status ok long on) h)
 
       module _ (on : flag st.attributes write_status ≡ true) (good : o.first + o.len ≤ length d) where
         -- then 2 for a block that is not there
-        pub order_2 : blocks (map_of st) ≤ o.block → step st v (call_of st d o) ≡ result (refused 2) st v []
+        pub order_2 : blocks (map_of st) ≤ o.block → step st v (call_of st d o) ≡ result_of (refused 2) st v []
         order_2 h = rw (turns.stretch_lies st d o good) ((service.order_2_write st v ok long on).0 o.block o.offset (stretch d o) h)
 
         -- and last 15 for one that is protected
-        pub order_protected : o.block < blocks (map_of st) → st.protected ≤ o.block → step st v (call_of st d o) ≡ result (refused 15) st v []
+        pub order_protected : o.block < blocks (map_of st) → st.protected ≤ o.block → step st v (call_of st d o) ≡ result_of (refused 15) st v []
         order_protected h p = rw (turns.stretch_lies st d o good) ((service.order_15_protected st v ok long on).0 o.block o.offset (stretch d o) h p)
 
   -- an order whose stretch lies in the data is the write of that stretch

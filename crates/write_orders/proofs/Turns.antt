@@ -17,7 +17,7 @@ use Rattle.volume.specs.declared.state.State.{State}
 use Rattle.block_service.specs.Access.{count_moved}
 use Rattle.block_service.specs.Blocks.{place}
 use Rattle.block_service.specs.Judged.{Stored, stored, judged_write}
-use Rattle.block_service.specs.Service.{Call, write, lent_refusals, refusals, effect, result, perform, buffer_of, step}
+use Rattle.block_service.specs.Service.{Call, write, lent_refusals, refusals, effect, result_of, perform, buffer_of, step}
 use Rattle.block_service.specs.declared.blocks.Place.TheVariants.{At}
 use Rattle.block_service.proofs.blocks.Places.{place_found}
 use Rattle.block_service.proofs.judged.Reaches.{judged_step}
@@ -37,13 +37,13 @@ write_leaves st v b o new = go (first_refusal (refusals st (length v) (write b o
 
 -- so its answer and its volume are its result
 write_result : (st : State) (v : List ℕ) (b o : ℕ) (new : List ℕ) (a : Answer) (after : List ℕ)
-    → stored a after ≡ stored (step st v (write b o new)).answer (step st v (write b o new)).volume → result a st after [] ≡ step st v (write b o new)
+    → stored a after ≡ stored (step st v (write b o new)).answer (step st v (write b o new)).volume → result_of a st after [] ≡ step st v (write b o new)
 write_result st v b o new a after e =
     let r = step st v (write b o new) in
     let kept = write_leaves st v b o new in
     let answered : a ≡ r.answer = ap (λ (x : Stored). x.answer) e in
     let left : after ≡ r.volume = ap (λ (x : Stored). x.volume) e in
-    rw (answered, left) (ap (λ (s : State). result r.answer s r.volume []) (sym kept.0) ∙ ap (λ (l : List ℕ). result r.answer r.state r.volume l) (sym kept.1))
+    rw (answered, left) (ap (λ (s : State). result_of r.answer s r.volume []) (sym kept.0) ∙ ap (λ (l : List ℕ). result_of r.answer r.state r.volume l) (sym kept.1))
 
 module _ (st : State) (d : List ℕ) (o : Order) where
   -- what holds of every write holds of an order's
@@ -69,13 +69,13 @@ module _ (st : State) (d : List ℕ) (o : Order) where
     order_state = as_write (λ c. (step st v c).state ≡ st) (λ b offset new. (write_leaves st v b offset new).0)
 
     -- 111, 5 and 15 refuse every order
-    pub lent_refused : (m : ℕ) → first_refusal (lent_refusals st (length v) write_status) ≡ some m → result (refused m) st v [] ≡ step st v (call_of st d o)
+    pub lent_refused : (m : ℕ) → first_refusal (lent_refusals st (length v) write_status) ≡ some m → result_of (refused m) st v [] ≡ step st v (call_of st d o)
     unfolding refusals buffer_of
-    lent_refused m e = as_write (λ c. result (refused m) st v [] ≡ step st v c) (λ b offset new. refused-step st v (write b offset new) m (lent_first st _ write_status _ m e))
+    lent_refused m e = as_write (λ c. result_of (refused m) st v [] ≡ step st v c) (λ b offset new. refused-step st v (write b offset new) m (lent_first st _ write_status _ m e))
 
     module _ (e : first_refusal (lent_refusals st (length v) write_status) ≡ none) where
       -- behind them, 2 where the stretch leaves the data
-      pub bad_stretch : length d < o.first + o.len → result (refused 2) st v [] ≡ step st v (call_of st d o)
+      pub bad_stretch : length d < o.first + o.len → result_of (refused 2) st v [] ≡ step st v (call_of st d o)
       unfolding refusals buffer_of
       bad_stretch h =
           rw (stretch-leaves h)
@@ -84,7 +84,7 @@ module _ (st : State) (d : List ℕ) (o : Order) where
       -- and the write where it does not, from what `write_judged` answers
       pub good_stretch : (a : Answer) (after : List ℕ) → o.first + o.len ≤ length d
           → stored a after ≡ judged_write st.attributes st.protected (map_of st) v o.block o.offset (take (o.first + o.len - o.first) (drop o.first d))
-          → result a st after [] ≡ step st v (call_of st d o)
+          → result_of a st after [] ≡ step st v (call_of st d o)
       unfolding stretch
       good_stretch a after h k = rw (stretch_lies h, sym (add-sub_cancel_left o.first o.len)) (write_result st v _ _ _ a after (k ∙ judged_step st v _ _ _ e))
 

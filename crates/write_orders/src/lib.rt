@@ -12,7 +12,7 @@ ghost use Rattle.std.specs.Prelude.{◌&&◌, [], ◌≡◌, ◌≤◌, ◌<◌,
 ghost use Rattle.std.proofs.Math.Option.{none};
 ghost use Rattle.common.specs.Refusals.{first_refusal};
 ghost use Rattle.volume.specs.Attributes.{write_status};
-ghost use Rattle.block_service.specs.Service.{step, result, moved_answer, lent_refusals};
+ghost use Rattle.block_service.specs.Service.{step, result_of, moved_answer, lent_refusals};
 ghost use Rattle.isolation.specs.Runs.{is_success};
 ghost use Rattle.write_orders.specs.Orders.{call_of, write_array, write_orders, written_of, stage, first_stage, counted, order_bytes, order_at, orders_in};
 
@@ -54,7 +54,7 @@ struct Stage {
 // an empty one that begins behind its end), 2 (no such block) or 15 (the block is protected). A short write ends the list and is not
 // counted; its bytes stay. Costs one test of the state, and for each order a scan of the map and the bytes that it stores.
 pub fn write_orders(st: State, volume: &mut [u8], orders: &[Order], source: &[u8]) -> Written
-    ensures* { λ r. ⌜ written_of r volume.new ≡ write_orders st source.now volume.old orders.now ⌝ }
+    ensures { written_of result volume.new ≡ write_orders st source.now volume.old orders.now }
 {
     let n = orders.len();
     let map = st.map;
@@ -77,7 +77,7 @@ pub fn write_order_array(
     used: usize,
     source: &[u8],
 ) -> Written
-    ensures* { λ r. ⌜ written_of r volume.new ≡ write_array st source.now volume.old array used ⌝ }
+    ensures { written_of result volume.new ≡ write_array st source.now volume.old array used }
 {
     if MOST_ORDERS < used {
         return Written {
@@ -91,7 +91,7 @@ pub fn write_order_array(
 // The same with orders that come as bytes, as in memory that C lends: 32 to an order, four little-endian numbers of 64 bits (block,
 // offset, first byte and length of the stretch). Up to 31 bytes behind the last whole order are ignored.
 pub fn write_order_bytes(st: State, volume: &mut [u8], orders: &[u8], source: &[u8]) -> Written
-    ensures* { λ r. ⌜ written_of r volume.new ≡ write_orders st source.now volume.old (orders_in orders.now) ⌝ }
+    ensures { written_of result volume.new ≡ write_orders st source.now volume.old (orders_in orders.now) }
 {
     let n = orders.len() / ORDER_BYTES;
     let map = st.map;
@@ -113,7 +113,7 @@ fn write_first(
     source: &[u8],
 ) -> Written
     requires { used ≤ 64 }
-    ensures* { λ r. ⌜ written_of r volume.new ≡ write_orders st source.now volume.old (take used array) ⌝ }
+    ensures { written_of result volume.new ≡ write_orders st source.now volume.old (take used array) }
 {
     write_orders(st, volume, &array[..used], source)
 }
@@ -121,7 +121,7 @@ fn write_first(
 // Order i of a list that comes as bytes.
 fn order_at(orders: &[u8], i: usize) -> Order
     requires { i < length orders.now / order_bytes }
-    ensures* { λ r. ⌜ r ≡ order_at orders.now i ⌝ }
+    ensures { result ≡ order_at orders.now i }
 {
     let at = ORDER_BYTES * i;
     Order {
@@ -134,7 +134,7 @@ fn order_at(orders: &[u8], i: usize) -> Order
 
 // The start of a list of n orders, on a volume of so many lent bytes.
 fn begin(st: State, volume_len: usize, n: usize) -> Stage
-    ensures* { λ r. ⌜ r ≡ first_stage st volume_len n ⌝ }
+    ensures { result ≡ first_stage st volume_len n }
 {
     if MOST_ORDERS < n {
         return at_stage(false, 0, Moved::Refused(2));
@@ -160,9 +160,9 @@ fn next(
     count: usize,
 ) -> Stage
     requires { (first_refusal (lent_refusals st (length volume.old) write_status) ≡ none) × (count < n) × (map.now ≡ st.map) }
-    ensures* { λ r. ⌜ (result (moved_answer r.written.last) st volume.new [] ≡ step st volume.old (call_of st source.now order))
-        × (r.written.count ≡ counted (moved_answer r.written.last) count)
-        × (r.going ≡ is_success (moved_answer r.written.last) && ltb (count + 1) n) ⌝ }
+    ensures { (result_of (moved_answer result.written.last) st volume.new [] ≡ step st volume.old (call_of st source.now order))
+        × (result.written.count ≡ counted (moved_answer result.written.last) count)
+        × (result.going ≡ is_success (moved_answer result.written.last) && ltb (count + 1) n) }
 {
     let last = write_order(st, map, volume, order, source);
     let with_it = count + 1;
@@ -175,7 +175,7 @@ fn next(
 
 // A list that goes on or has ended, with its count and last answer.
 fn at_stage(going: bool, count: usize, last: Moved) -> Stage
-    ensures* { λ r. ⌜ r ≡ stage going count last ⌝ }
+    ensures { result ≡ stage going count last }
 {
     Stage {
         going,
@@ -186,7 +186,7 @@ fn at_stage(going: bool, count: usize, last: Moved) -> Stage
 // One order carried out: 2 for a stretch that leaves the data, then the write.
 fn write_order(st: State, map: &[u32; 64], volume: &mut [u8], order: Order, source: &[u8]) -> Moved
     requires { (first_refusal (lent_refusals st (length volume.old) write_status) ≡ none) × (map.now ≡ st.map) }
-    ensures* { λ r. ⌜ result (moved_answer r) st volume.new [] ≡ step st volume.old (call_of st source.now order) ⌝ }
+    ensures { result_of (moved_answer result) st volume.new [] ≡ step st volume.old (call_of st source.now order) }
 {
     let first = order.first;
     let len = order.len;

@@ -21,7 +21,7 @@ use Rattle.volume.specs.declared.state.State.{State}
 use Rattle.block_service.specs.Access.{count_moved, changed_byte, write_change}
 use Rattle.block_service.specs.Blocks.{place_from, place, start_of, length_of}
 use Rattle.block_service.specs.Judged.{outgrows, judged_refusals, Stored, stored, judged_write, judged_reach}
-use Rattle.block_service.specs.Service.{write, lent_refusals, refusals, move_answer, result, perform, effect, buffer_of, step}
+use Rattle.block_service.specs.Service.{write, lent_refusals, refusals, move_answer, result_of, perform, effect, buffer_of, step}
 use Rattle.block_service.specs.declared.service.Reach.{Reach}
 use Rattle.block_service.specs.declared.service.Reach.TheVariants.{At, Refused}
 use Rattle.block_service.proofs.blocks.Places.{found_end, place_there}

@@ -21,7 +21,7 @@ use Rattle.block_service.specs.Blocks.{in_block, block_at}
 use Rattle.block_service.specs.Erase.{good_list, names, reaches}
 use Rattle.block_service.specs.Carry.{filled, refused_with, Progressed}
 use Rattle.block_service.specs.Order.{member, part, erase_order, job_given, carry_change, finishes}
-use Rattle.block_service.specs.Service.{carry_erase, lent_refusals, refusals, effect, Result, result, perform, buffer_of, step, progress_answer, carry_answer}
+use Rattle.block_service.specs.Service.{carry_erase, lent_refusals, refusals, effect, Result, result_of, perform, buffer_of, step, progress_answer, carry_answer}
 use Rattle.block_service.specs.declared.service.Progress.{Progress}
 use Rattle.block_service.specs.declared.service.Progress.TheVariants as Progress
 use Rattle.block_service.proofs.blocks.Places.{in_some_block, before_first_byte, first_byte_end}
@@ -111,27 +111,27 @@ carry_rows st n w job k lent good = lent_last st n write_status _ _ lent (ap not
 finish : (st : State) (v w : List ℕ) (job n : ℕ) (r : Progress) (u : List ℕ) (o : Option ℕ) → first_refusal (refusals st (length v) (carry_erase w job n)) ≡ o
     → progress_answer r ≡ unless_refused (λ k. refused k) o (carry_answer (finishes (map_of st) w job n) (job + n))
     → u ≡ unless_refused (λ k. v) o (filled (erased_byte st.attributes) (part job (job + n) (erase_order (map_of st) w)) v)
-    → result (progress_answer r) st u [] ≡ step st v (carry_erase w job n)
+    → result_of (progress_answer r) st u [] ≡ step st v (carry_erase w job n)
 unfolding perform effect buffer_of
 finish st v w job n r u none e a b =
-    ap₂ (λ (x : Answer) (y : List ℕ). result x st y []) a (b ∙ sym (carried-filled st.attributes (map_of st) w job n v)) ∙ allowed_step st v (carry_erase w job n) e
-finish st v w job n r u (some k) e a b = ap₂ (λ (x : Answer) (y : List ℕ). result x st y []) a b ∙ refused-step st v (carry_erase w job n) k e
+    ap₂ (λ (x : Answer) (y : List ℕ). result_of x st y []) a (b ∙ sym (carried-filled st.attributes (map_of st) w job n v)) ∙ allowed_step st v (carry_erase w job n) e
+finish st v w job n r u (some k) e a b = ap₂ (λ (x : Answer) (y : List ℕ). result_of x st y []) a b ∙ refused-step st v (carry_erase w job n) k e
 
 -- a refusal by the rows of the lent volume is the call's, and so is 2 for a bad list where they pass
 pub carry_refused : (st : State) (v w : List ℕ) (job n k : ℕ) → first_refusal (lent_refusals st (length v) write_status) ≡ some k
-    → result (refused k) st v [] ≡ step st v (carry_erase w job n)
+    → result_of (refused k) st v [] ≡ step st v (carry_erase w job n)
 unfolding refusals buffer_of
 carry_refused st v w job n k e = refused-step st v (carry_erase w job n) k (lent_first st (length v) write_status _ k e)
 
 pub carry_bad : (st : State) (v w : List ℕ) (job n : ℕ) → first_refusal (lent_refusals st (length v) write_status) ≡ none → not (good_list (blocks (map_of st)) w) ≡ true
-    → result (refused 2) st v [] ≡ step st v (carry_erase w job n)
+    → result_of (refused 2) st v [] ≡ step st v (carry_erase w job n)
 unfolding refusals buffer_of
 carry_bad st v w job n e bad = refused-step st v (carry_erase w job n) 2 (lent_2 st (length v) write_status _ _ e bad)
 
 -- so a carrying on whose first rows pass does what is said of a good list
 pub progress_step : (st : State) (v w : List ℕ) (job n : ℕ) (r : Progress) (u : List ℕ) → first_refusal (lent_refusals st (length v) write_status) ≡ none
     → good_list (blocks (map_of st)) w ≡ true → Progressed (map_of st) w (erased_byte st.attributes) (reaches st.protected w) job n v r u
-    → result (progress_answer r) st u [] ≡ step st v (carry_erase w job n)
+    → result_of (progress_answer r) st u [] ≡ step st v (carry_erase w job n)
 progress_step st v w job n r u lent good p = go (first_refusal rest) refl
   where
     rest : List Row
@@ -140,7 +140,7 @@ progress_step st v w job n r u lent good p = go (first_refusal rest) refl
     rows : first_refusal (refusals st (length v) (carry_erase w job n)) ≡ first_refusal rest
     rows = carry_rows st (length v) w job n lent good
 
-    go : (o : Option ℕ) → first_refusal rest ≡ o → result (progress_answer r) st u [] ≡ step st v (carry_erase w job n)
+    go : (o : Option ℕ) → first_refusal rest ≡ o → result_of (progress_answer r) st u [] ≡ step st v (carry_erase w job n)
     go o e = finish st v w job n r u o (rows ∙ e) (subst (λ (x : Option ℕ). progress_answer r ≡ unless_refused (λ k. refused k) x (carry_answer (finishes (map_of st) w job n) (job + n))) e p.told)
         (subst (λ (x : Option ℕ). u ≡ unless_refused (λ k. v) x (filled (erased_byte st.attributes) (part job (job + n) (erase_order (map_of st) w)) v)) e p.left)
 

@@ -21,7 +21,7 @@ use Rattle.volume.specs.declared.state.State.{State}
 use Rattle.block_service.specs.Access.{erased_byte, keep, erase, changed_byte}
 use Rattle.block_service.specs.Blocks.{in_block, block_at}
 use Rattle.block_service.specs.Erase.{end_of_list, good_list, names, reaches, erase_change}
-use Rattle.block_service.specs.Service.{write, erase_blocks, lent_refusals, refusals, effect, Result, result, perform, buffer_of, step}
+use Rattle.block_service.specs.Service.{write, erase_blocks, lent_refusals, refusals, effect, Result, result_of, perform, buffer_of, step}
 use Rattle.block_service.proofs.erase.Lists.{names-reaches, reaches-names, names_within}
 use Rattle.block_service.proofs.blocks.Places.{in_block-block_at, in_block_bounds, in_some_block, before_first_byte, first_byte_end, first_byte-le}
 use Rattle.block_service.proofs.service.Steps.{allowed_step, passed_success, Passed, passed_erase, lent_passes, lent_last, refused-step}
@@ -148,7 +148,7 @@ named_alike st v a b good same = go (first_refusal (refusals st (length v) (eras
     go (some n) e = sym (refused-step st v (erase_blocks a) n e) ∙ refused-step st v (erase_blocks b) n (sym tables ∙ e)
     go none e =
         sym (allowed_step st v (erase_blocks a) e)
-        ∙ ap (λ (l : List ℕ). result (success []) st l []) bytes_same
+        ∙ ap (λ (l : List ℕ). result_of (success []) st l []) bytes_same
         ∙ allowed_step st v (erase_blocks b) (sym tables ∙ e)
 
 -- so a pair that stands twice is as if it stood once
@@ -207,7 +207,7 @@ words_after_end st v pairs a b e = named_alike st v _ _ (after_good (blocks (map
 pub erase_allowed : (st : State) (v list : List ℕ) → unlawful st ≡ false → st.length ≤ length v → flag st.attributes write_status ≡ true
     → good_list (blocks (map_of st)) list ≡ true → ((b : ℕ) → T (names list b) → b < st.protected)
     → step st v (erase_blocks list)
-    ≡ result (success []) st (edit (λ i old. changed_byte st.attributes (erase_change (map_of st) list i) old) 0 v) []
+    ≡ result_of (success []) st (edit (λ i old. changed_byte st.attributes (erase_change (map_of st) list i) old) 0 v) []
 unfolding refusals buffer_of perform effect
 erase_allowed st v list ok long on good free =
     sym (allowed_step st v (erase_blocks list)
@@ -219,10 +219,10 @@ erase_allowed st v list ok long on good free =
 
 -- the empty list succeeds and changes nothing, whatever follows its terminator
 pub empty_list : (st : State) (v rest : List ℕ) → unlawful st ≡ false → st.length ≤ length v → flag st.attributes write_status ≡ true
-    → step st v (erase_blocks (end_of_list ∷ rest)) ≡ result (success []) st v []
+    → step st v (erase_blocks (end_of_list ∷ rest)) ≡ result_of (success []) st v []
 unfolding changed_byte erase_change
 empty_list st v rest ok long on =
     erase_allowed st v (end_of_list ∷ rest) ok long on (end_good (blocks (map_of st)) rest) (λ b t. absurd (rw (end_names rest b) at t))
-    ∙ ap (λ (l : List ℕ). result (success []) st l [])
+    ∙ ap (λ (l : List ℕ). result_of (success []) st l [])
     (edit_keep (λ i old. changed_byte st.attributes (erase_change (map_of st) (end_of_list ∷ rest) i) old) 0 v
     (λ i old h. rw (end_names rest (block_at (map_of st) (0 + i)))))

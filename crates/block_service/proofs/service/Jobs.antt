@@ -22,7 +22,7 @@ use Rattle.volume.proofs.state.Lawful.{lent_within}
 use Rattle.block_service.specs.Access.{erased_byte, changed_byte}
 use Rattle.block_service.specs.Erase.{good_list, names}
 use Rattle.block_service.specs.Order.{member, part, erase_order, job_given, carry_change, finishes}
-use Rattle.block_service.specs.Service.{erase_blocks, accept_erase, carry_erase, refusals, effect, carry_answer, Result, result, perform, buffer_of, step}
+use Rattle.block_service.specs.Service.{erase_blocks, accept_erase, carry_erase, refusals, effect, carry_answer, Result, result_of, perform, buffer_of, step}
 use Rattle.block_service.proofs.carry.Orders.{order_short}
 use Rattle.block_service.proofs.carry.Portions as Portions
 use Rattle.block_service.proofs.carry.Portions.{carried, carried-filled, filled_byte, portions, by_none, to_the_end, torn}
@@ -46,19 +46,19 @@ accept_stores_nothing st v list = go (first_refusal (refusals st (length v) (acc
 
 -- where the erase of the list passes its rows, the job 0 is answered; where it is refused, so is the acceptance
 pub accepts : (st : State) (v list : List ℕ) → first_refusal (refusals st (length v) (erase_blocks list)) ≡ none
-    → step st v (accept_erase list) ≡ result (success (0 ∷ [])) st v []
+    → step st v (accept_erase list) ≡ result_of (success (0 ∷ [])) st v []
 unfolding refusals perform effect buffer_of
 accepts st v list e = sym (allowed_step st v (accept_erase list) e)
 
 accept_refuses : (st : State) (v list : List ℕ) (n : ℕ) → first_refusal (refusals st (length v) (erase_blocks list)) ≡ some n
-    → step st v (accept_erase list) ≡ result (refused n) st v []
+    → step st v (accept_erase list) ≡ result_of (refused n) st v []
 unfolding refusals buffer_of
 accept_refuses st v list n e = sym (refused-step st v (accept_erase list) n e)
 
 -- so it is accepted exactly where the erase succeeds, and refused with the same number
 pub accept_as_erase : (st : State) (v list : List ℕ)
-    → ((step st v (erase_blocks list)).answer ≡ success [] → step st v (accept_erase list) ≡ result (success (0 ∷ [])) st v [])
-    × ((n : ℕ) → (step st v (erase_blocks list)).answer ≡ refused n → step st v (accept_erase list) ≡ result (refused n) st v [])
+    → ((step st v (erase_blocks list)).answer ≡ success [] → step st v (accept_erase list) ≡ result_of (success (0 ∷ [])) st v [])
+    × ((n : ℕ) → (step st v (erase_blocks list)).answer ≡ refused n → step st v (accept_erase list) ≡ result_of (refused n) st v [])
 accept_as_erase st v list = (
   (λ h. accepts st v list (passed_success st v (erase_blocks list) [] h)),
   λ n h. accept_refuses st v list n ((refused_exactly st v (erase_blocks list) n).0 h),
@@ -79,7 +79,7 @@ order_within st v list values h =
 
 -- a carrying on that no row refuses
 pub carries : (st : State) (v list : List ℕ) (job n : ℕ) → first_refusal (refusals st (length v) (carry_erase list job n)) ≡ none
-    → step st v (carry_erase list job n) ≡ result (carry_answer (finishes (map_of st) list job n) (job + n)) st (carried st.attributes (map_of st) list job n v) []
+    → step st v (carry_erase list job n) ≡ result_of (carry_answer (finishes (map_of st) list job n) (job + n)) st (carried st.attributes (map_of st) list job n v) []
 unfolding perform effect buffer_of
 carries st v list job n e = sym (allowed_step st v (carry_erase list job n) e)
 
@@ -97,7 +97,7 @@ carry_short false j k e = (refl, cc)
 -- of a good list and a job that is given
 pub carry_allowed : (st : State) (v list : List ℕ) → unlawful st ≡ false → st.length ≤ length v → flag st.attributes write_status ≡ true
     → good_list (blocks (map_of st)) list ≡ true → ((b : ℕ) → T (names list b) → b < st.protected) → (job n : ℕ) → job_given (map_of st) list job ≡ true
-    → step st v (carry_erase list job n) ≡ result (carry_answer (finishes (map_of st) list job n) (job + n)) st (carried st.attributes (map_of st) list job n v) []
+    → step st v (carry_erase list job n) ≡ result_of (carry_answer (finishes (map_of st) list job n) (job + n)) st (carried st.attributes (map_of st) list job n v) []
 carry_allowed st v list ok long on good free job n given =
     carries st v list job n
     (carry_passes st (length v) list job n
@@ -176,7 +176,7 @@ module _ (st : State) (v list values : List ℕ) (accepted : (step st v (accept_
 
   -- a job is carried on, in any volume of that length
   job_carries : (u : List ℕ) → length u ≡ length v → (job n : ℕ) → job_given (map_of st) list job ≡ true
-      → step st u (carry_erase list job n) ≡ result (carry_answer (finishes (map_of st) list job n) (job + n)) st (carried st.attributes (map_of st) list job n u) []
+      → step st u (carry_erase list job n) ≡ result_of (carry_answer (finishes (map_of st) list job n) (job + n)) st (carried st.attributes (map_of st) list job n u) []
   job_carries u e job n given = carries st u list job n (carry_passes st (length u) list job n (rw e passes) given)
 
   -- every job that is given but 0 is what carrying on by so many stores answers
@@ -208,7 +208,7 @@ module _ (st : State) (v list values : List ℕ) (accepted : (step st v (accept_
       → step st u (carry_erase list job n) ≡ step st w (carry_erase list job n)
   mended u w job n from to eu ew p q given h =
       job_carries u eu job n given
-      ∙ ap (λ (x : List ℕ). result (carry_answer (finishes (map_of st) list job n) (job + n)) st x []) (torn st.attributes (map_of st) list job n from to u w p q (eu ∙ sym ew) h)
+      ∙ ap (λ (x : List ℕ). result_of (carry_answer (finishes (map_of st) list job n) (job + n)) st x []) (torn st.attributes (map_of st) list job n from to u w p q (eu ∙ sym ew) h)
       ∙ sym (job_carries w ew job n given)
 
   -- so carrying on again from an earlier job, to the cut or past it, ends as without a cut
@@ -234,7 +234,7 @@ module _ (st : State) (v list values : List ℕ) (accepted : (step st v (accept_
 
 -- the erase is an acceptance and then a carrying on to the end, refusals included
 pub two_operations : (st : State) (v list : List ℕ) (n : ℕ) → length (erase_order (map_of st) list) ≤ n
-    → ((k : ℕ) → (step st v (accept_erase list)).answer ≡ refused k → step st v (erase_blocks list) ≡ result (refused k) st v [])
+    → ((k : ℕ) → (step st v (accept_erase list)).answer ≡ refused k → step st v (erase_blocks list) ≡ result_of (refused k) st v [])
     × ((job : ℕ) → (step st v (accept_erase list)).answer ≡ success (job ∷ [])
     → step (step st v (accept_erase list)).state (step st v (accept_erase list)).volume (carry_erase list job n) ≡ step st v (erase_blocks list))
 unfolding refusals buffer_of
@@ -249,7 +249,7 @@ two_operations st v list n h = (
 -- ---- the order of their refusals
 
 pub jobs_5 : (st : State) (v list : List ℕ) → unlawful st ≡ false → length v < st.length
-    → (step st v (accept_erase list) ≡ result (refused 5) st v []) × ((job n : ℕ) → step st v (carry_erase list job n) ≡ result (refused 5) st v [])
+    → (step st v (accept_erase list) ≡ result_of (refused 5) st v []) × ((job n : ℕ) → step st v (carry_erase list job n) ≡ result_of (refused 5) st v [])
 jobs_5 st v list ok h = (
   (accept_as_erase st v list).1 5 (ap (λ (r : Result). r.answer) ((order_5 st v ok h).2 list)),
   λ job n. sym (carry_refused st v list job n 5 (lent_5 st (length v) write_status ok h)),
@@ -257,7 +257,7 @@ jobs_5 st v list ok h = (
 
 module _ (st : State) (v list : List ℕ) (ok : unlawful st ≡ false) (long : st.length ≤ length v) where
   pub jobs_15 : flag st.attributes write_status ≡ false
-      → (step st v (accept_erase list) ≡ result (refused 15) st v []) × ((job n : ℕ) → step st v (carry_erase list job n) ≡ result (refused 15) st v [])
+      → (step st v (accept_erase list) ≡ result_of (refused 15) st v []) × ((job n : ℕ) → step st v (carry_erase list job n) ≡ result_of (refused 15) st v [])
   jobs_15 off = (
     (accept_as_erase st v list).1 15 (ap (λ (r : Result). r.answer) ((order_15_write st v ok long off).1 list)),
     λ job n. sym (carry_refused st v list job n 15 (lent_15 st (length v) write_status ok long off)),
@@ -266,7 +266,7 @@ module _ (st : State) (v list : List ℕ) (ok : unlawful st ≡ false) (long : s
   module _ (on : flag st.attributes write_status ≡ true) where
     -- a bad list
     pub jobs_2 : good_list (blocks (map_of st)) list ≡ false
-        → (step st v (accept_erase list) ≡ result (refused 2) st v []) × ((job n : ℕ) → step st v (carry_erase list job n) ≡ result (refused 2) st v [])
+        → (step st v (accept_erase list) ≡ result_of (refused 2) st v []) × ((job n : ℕ) → step st v (carry_erase list job n) ≡ result_of (refused 2) st v [])
     jobs_2 bad = (
       (accept_as_erase st v list).1 2 (ap (λ (r : Result). r.answer) ((order_2_write st v ok long on).1 list bad)),
       λ job n. sym (carry_bad st v list job n (lent_passes st (length v) write_status ok long on) (ap not bad)),
@@ -274,7 +274,7 @@ module _ (st : State) (v list : List ℕ) (ok : unlawful st ≡ false) (long : s
 
     -- a good list, and a job that is not given: whether blocks of the list are protected or not
     pub jobs_2_job : good_list (blocks (map_of st)) list ≡ true → (job n : ℕ) → job_given (map_of st) list job ≡ false
-        → step st v (carry_erase list job n) ≡ result (refused 2) st v []
+        → step st v (carry_erase list job n) ≡ result_of (refused 2) st v []
     unfolding refusals buffer_of
     jobs_2_job good job n e =
         sym (refused-step st v (carry_erase list job n) 2
@@ -282,8 +282,8 @@ module _ (st : State) (v list : List ℕ) (ok : unlawful st ≡ false) (long : s
 
     -- a block of the list is protected
     pub jobs_15_protected : good_list (blocks (map_of st)) list ≡ true → (b : ℕ) → T (names list b) → st.protected ≤ b
-        → (step st v (accept_erase list) ≡ result (refused 15) st v [])
-        × ((job n : ℕ) → job_given (map_of st) list job ≡ true → step st v (carry_erase list job n) ≡ result (refused 15) st v [])
+        → (step st v (accept_erase list) ≡ result_of (refused 15) st v [])
+        × ((job n : ℕ) → job_given (map_of st) list job ≡ true → step st v (carry_erase list job n) ≡ result_of (refused 15) st v [])
     unfolding refusals buffer_of
     jobs_15_protected good b t p = (
       (accept_as_erase st v list).1 15 (ap (λ (r : Result). r.answer) ((order_15_protected st v ok long on).1 list good b t p)),

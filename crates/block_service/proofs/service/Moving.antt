@@ -22,7 +22,7 @@ use Rattle.volume.specs.declared.state.State.{State}
 use Rattle.volume.proofs.state.Lawful.{lawful}
 use Rattle.block_service.specs.Access.{count_moved, written_byte, keep, store, write_change, changed_byte}
 use Rattle.block_service.specs.Blocks.{place, start_of, length_of, in_block}
-use Rattle.block_service.specs.Service.{move_answer, read, write, refusals, effect, Result, result, perform, buffer_of, step}
+use Rattle.block_service.specs.Service.{move_answer, read, write, refusals, effect, Result, result_of, perform, buffer_of, step}
 use Rattle.block_service.specs.declared.blocks.Place.TheVariants.{At}
 use Rattle.block_service.proofs.blocks.Places.{in_block_of_bounds, found_start, found_end, found_within, place_found, place_there}
 use Rattle.block_service.proofs.service.Steps.{allowed_step, allowed_answers, lent_last, lent_passes, passed, passed_read, passed_rows, passed_write, reach_rows, read_step, write_step}
@@ -147,7 +147,7 @@ module _ (st : State) (v : List ℕ) (ok : unlawful st ≡ false) (long : st.len
       → ((n : ℕ) → (step st v (read b o buffer)).answer ≡ refused n → ⊥)
       × ((e : ℕ) × (s : ℕ) × (l : ℕ) × (r : ℕ) × (place (map_of st) b ≡ At e s l r)
       × (step st v (read b o buffer)
-      ≡ result (move_answer (count_moved l o (length buffer)) (length buffer)) st v
+      ≡ result_of (move_answer (count_moved l o (length buffer)) (length buffer)) st v
       (take (count_moved l o (length buffer)) (drop (s + o) v) ++ drop (count_moved l o (length buffer)) buffer)))
   unfolding refusals start_of length_of
   read_allowed on b o buffer h =
@@ -161,7 +161,7 @@ module _ (st : State) (v : List ℕ) (ok : unlawful st ≡ false) (long : st.len
       → ((n : ℕ) → (step st v (write b o new)).answer ≡ refused n → ⊥)
       × ((e : ℕ) × (s : ℕ) × (l : ℕ) × (r : ℕ) × (place (map_of st) b ≡ At e s l r)
       × (step st v (write b o new)
-      ≡ result (move_answer (count_moved l o (length new)) (length new)) st
+      ≡ result_of (move_answer (count_moved l o (length new)) (length new)) st
       (edit (λ i old. changed_byte st.attributes (write_change (s + o) (count_moved l o (length new)) new i) old) 0 v) []))
   unfolding refusals start_of length_of
   write_allowed on b o new h =

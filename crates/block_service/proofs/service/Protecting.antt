@@ -15,7 +15,7 @@ use Rattle.volume.specs.BlockMap.{blocks}
 use Rattle.volume.specs.State.{state_with, map_of, unlawful}
 use Rattle.volume.specs.declared.state.State.{State}
 use Rattle.volume.proofs.state.Lawful.{lawful}
-use Rattle.block_service.specs.Service.{read, protect_blocks, lent_refusals, refusals, reply, effect, with_protected, decide, result, perform, buffer_of, step}
+use Rattle.block_service.specs.Service.{read, protect_blocks, lent_refusals, refusals, reply, effect, with_protected, decide, result_of, perform, buffer_of, step}
 use Rattle.block_service.proofs.service.Steps.{refused-step, allowed_step, quiet_step}
 
 -- a first protected block that was set is at most the one before
@@ -34,18 +34,18 @@ lower_lawful st first h ok =
 
 -- of a lawful state: a first protected block above the present one is refused with 2
 pub protect_raised : (st : State) (v : List ℕ) (first : ℕ) → unlawful st ≡ false → st.protected < first
-    → step st v (protect_blocks first) ≡ result (refused 2) st v []
+    → step st v (protect_blocks first) ≡ result_of (refused 2) st v []
 unfolding refusals buffer_of
 protect_raised st v first ok h = sym (refused-step st v (protect_blocks first) 2 (row_passes _ _ _ _ ok (row_applies _ _ _ (lt-ltb _ _ h))))
 
 -- and any other is set
 pub protect_done : (st : State) (v : List ℕ) (first : ℕ) → unlawful st ≡ false → first ≤ st.protected
-    → step st v (protect_blocks first) ≡ result (success []) (with_protected st first) v []
+    → step st v (protect_blocks first) ≡ result_of (success []) (with_protected st first) v []
 unfolding refusals buffer_of perform effect
 protect_done st v first ok h = sym (allowed_step st v (protect_blocks first) (row_passes _ _ _ _ ok (row_passes _ _ _ _ (le-ltb _ _ h) no_row)))
 
 -- the present one, too
-pub protected_as_it_is : (st : State) (v : List ℕ) → unlawful st ≡ false → step st v (protect_blocks st.protected) ≡ result (success []) st v []
+pub protected_as_it_is : (st : State) (v : List ℕ) → unlawful st ≡ false → step st v (protect_blocks st.protected) ≡ result_of (success []) st v []
 unfolding with_protected state_with
 protected_as_it_is st v ok = protect_done st v st.protected ok (omega arith)
 
@@ -62,13 +62,13 @@ read_refused st n first ok h b o buffer = let low = lower_lawful st first h ok i
 
 -- and answers and fills the buffer alike
 pub read_free : (st : State) (v : List ℕ) (first : ℕ) → unlawful st ≡ false → first ≤ st.protected → (b o : ℕ) (buffer : List ℕ)
-    → let r = step st v (read b o buffer) in step (with_protected st first) v (read b o buffer) ≡ result r.answer (with_protected st first) v r.buffer
+    → let r = step st v (read b o buffer) in step (with_protected st first) v (read b o buffer) ≡ result_of r.answer (with_protected st first) v r.buffer
 unfolding step decide perform effect buffer_of with_protected state_with map_of
 read_free st v first ok h b o buffer = rw (read_refused st (length v) first ok h b o buffer) (go (first_refusal (refusals st (length v) (read b o buffer))))
   where
     go : (x : Option ℕ)
         → perform (with_protected st first) v buffer (unless_refused (λ n. reply (refused n)) x (effect (with_protected st first) (read b o buffer)))
-        ≡ result (perform st v buffer (unless_refused (λ n. reply (refused n)) x (effect st (read b o buffer)))).answer (with_protected st first) v
+        ≡ result_of (perform st v buffer (unless_refused (λ n. reply (refused n)) x (effect st (read b o buffer)))).answer (with_protected st first) v
         (perform st v buffer (unless_refused (λ n. reply (refused n)) x (effect st (read b o buffer)))).buffer
     go none = refl
     go (some n) = refl

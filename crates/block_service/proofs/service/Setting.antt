@@ -9,7 +9,7 @@ use Rattle.common.proofs.Bits.{bit}
 use Rattle.common.proofs.Refusals.{row_applies, row_passes, no_row}
 use Rattle.volume.specs.State.{state_with, unlawful}
 use Rattle.volume.specs.declared.state.State.{State}
-use Rattle.block_service.specs.Service.{set_attributes, refusals, effect, with_attributes, Result, result, perform, buffer_of, step}
+use Rattle.block_service.specs.Service.{set_attributes, refusals, effect, with_attributes, Result, result_of, perform, buffer_of, step}
 use Rattle.settings.specs.Settings.{status_bits, changes_fixed, changes_locked, lacks_capability, setting_refusals}
 use Rattle.settings.proofs.Rules.{fixed_none, locked_none, lacks_none, bits_fixed}
 use Rattle.block_service.proofs.service.Steps.{refused-step, allowed_step, quiet_step, unlawful-step}
@@ -17,34 +17,34 @@ use Rattle.block_service.proofs.service.Steps.{refused-step, allowed_step, quiet
 -- the rules in their order, of a lawful state
 module _ (st : State) (v : List ℕ) (new : ℕ) (ok : unlawful st ≡ false) where
   -- a fixed bit changes: 2
-  pub set_fixed : changes_fixed st.edition st.attributes new ≡ true → step st v (set_attributes new) ≡ result (refused 2) st v []
+  pub set_fixed : changes_fixed st.edition st.attributes new ≡ true → step st v (set_attributes new) ≡ result_of (refused 2) st v []
   unfolding refusals buffer_of setting_refusals
   set_fixed f = sym (refused-step st v (set_attributes new) 2 (row_passes _ _ _ _ ok (row_applies _ _ _ f)))
 
   module _ (f : changes_fixed st.edition st.attributes new ≡ false) where
     -- what a lock keeps is changed: 15
     pub set_locked : changes_locked st.edition st.attributes new ≡ true
-        → step st v (set_attributes new) ≡ result (refused 15) st v []
+        → step st v (set_attributes new) ≡ result_of (refused 15) st v []
     unfolding refusals buffer_of setting_refusals
     set_locked l = sym (refused-step st v (set_attributes new) 15 (row_passes _ _ _ _ ok (row_passes _ _ _ _ f (row_applies _ _ _ l))))
 
     module _ (l : changes_locked st.edition st.attributes new ≡ false) where
       -- a change that lacks its capability: 2
-      pub set_lacking : lacks_capability st.edition st.attributes new ≡ true → step st v (set_attributes new) ≡ result (refused 2) st v []
+      pub set_lacking : lacks_capability st.edition st.attributes new ≡ true → step st v (set_attributes new) ≡ result_of (refused 2) st v []
       unfolding refusals buffer_of setting_refusals
       set_lacking k =
           sym (refused-step st v (set_attributes new) 2 (row_passes _ _ _ _ ok (row_passes _ _ _ _ f (row_passes _ _ _ _ l (row_applies _ _ _ k)))))
 
       -- and otherwise they are set
       pub set_done : lacks_capability st.edition st.attributes new ≡ false
-          → step st v (set_attributes new) ≡ result (success (new ∷ [])) (with_attributes st new) v []
+          → step st v (set_attributes new) ≡ result_of (success (new ∷ [])) (with_attributes st new) v []
       unfolding refusals buffer_of setting_refusals perform effect
       set_done k =
           sym (allowed_step st v (set_attributes new) (row_passes _ _ _ _ ok (row_passes _ _ _ _ f (row_passes _ _ _ _ l (row_passes _ _ _ _ k no_row)))))
 
 -- the settings as they are
 pub settings_as_they_are : (st : State) (v : List ℕ) → unlawful st ≡ false
-    → step st v (set_attributes st.attributes) ≡ result (success (st.attributes ∷ [])) st v []
+    → step st v (set_attributes st.attributes) ≡ result_of (success (st.attributes ∷ [])) st v []
 unfolding with_attributes state_with
 settings_as_they_are st v ok =
     let a = st.attributes in

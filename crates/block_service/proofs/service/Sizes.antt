@@ -17,7 +17,7 @@ use Rattle.volume.specs.declared.state.State.{State}
 use Rattle.volume.proofs.state.Lawful.{lawful}
 use Rattle.block_service.specs.Blocks.{place, HasLength, start_of, length_of, in_block, block_at, consecutive_blocks}
 use Rattle.block_service.specs.Service.{get_block_size, refusals, effect, Result}
-use Rattle.block_service.specs.Service.{result, perform, step}
+use Rattle.block_service.specs.Service.{result_of, perform, step}
 use Rattle.block_service.specs.declared.blocks.Place.TheVariants.{At}
 use Rattle.block_service.proofs.blocks.Places.{in_some_block, place_there, in_one_block, next_block}
 use Rattle.block_service.proofs.blocks.Runs.{as_long, number_alike, number_ends, number_in_entry}
@@ -105,7 +105,7 @@ module _ (st : State) (v : List ℕ) (b l n : ℕ) (h : (step st v (get_block_si
 
 -- it answers for every block that is there, in a lawful state
 pub size_answered : (st : State) (v : List ℕ) (b : ℕ) → unlawful st ≡ false → b < blocks (map_of st)
-    → (l : ℕ) × HasLength (place (map_of st) b) l × (step st v (get_block_size b) ≡ result (success (l ∷ consecutive_blocks (map_of st) b ∷ [])) st v [])
+    → (l : ℕ) × HasLength (place (map_of st) b) l × (step st v (get_block_size b) ≡ result_of (success (l ∷ consecutive_blocks (map_of st) b ∷ [])) st v [])
 unfolding refusals
 size_answered st v b ok h =
     let pass = row_passes _ _ _ _ ok (row_passes _ _ _ _ (lt-leb _ _ h) no_row) in

@@ -22,7 +22,7 @@ use Rattle.block_service.specs.Access.{count_moved, erased_byte, keep, erase, wr
 use Rattle.block_service.specs.Blocks.{place, start_of, length_of, block_at, consecutive_blocks}
 use Rattle.block_service.specs.Erase.{good_list, names, reaches, erase_change}
 use Rattle.block_service.specs.Service.{Call, get_attributes, set_attributes, get_physical_address, get_block_size, read, write, erase_blocks, protect_blocks, accept_erase, carry_erase, lent_refusals, refusals}
-use Rattle.block_service.specs.Service.{effect, move_answer, carry_answer, Result, result, perform, buffer_of, step, decide, reach_of}
+use Rattle.block_service.specs.Service.{effect, move_answer, carry_answer, Result, result_of, perform, buffer_of, step, decide, reach_of}
 use Rattle.block_service.specs.Order.{job_given}
 use Rattle.block_service.specs.declared.blocks.Place.TheVariants.{At}
 use Rattle.block_service.specs.declared.service.Reach.TheVariants as Reach
@@ -31,7 +31,7 @@ use Rattle.block_service.proofs.erase.Lists.{names-reaches}
 
 -- a refused call answers its number and leaves everything as it was
 pub refused-step : (st : State) (v : List ℕ) (c : Call) (n : ℕ) → first_refusal (refusals st (length v) c) ≡ some n
-    → result (refused n) st v (buffer_of c) ≡ step st v c
+    → result_of (refused n) st v (buffer_of c) ≡ step st v c
 unfolding step decide perform
 refused-step st v c n e = rw e
 
@@ -50,7 +50,7 @@ quiet_step st v c h = go (first_refusal (refusals st (length v) c)) refl
     go none e = ap (λ (r : Result). r.volume) (sym (allowed_step st v c e)) ∙ h
 
 -- 111 comes first at every call
-pub unlawful-step : (st : State) (v : List ℕ) (c : Call) → unlawful st ≡ true → result (refused 111) st v (buffer_of c) ≡ step st v c
+pub unlawful-step : (st : State) (v : List ℕ) (c : Call) → unlawful st ≡ true → result_of (refused 111) st v (buffer_of c) ≡ step st v c
 unfolding refusals lent_refusals
 unlawful-step st v get_attributes e = refused-step st v _ 111 (row_applies _ _ _ e)
 unlawful-step st v (set_attributes new) e = refused-step st v _ 111 (row_applies _ _ _ e)
@@ -161,7 +161,7 @@ free_read st n limit b o buffer past = go (first_refusal (lent_refusals st n rea
 pub read_step : (st : State) (v : List ℕ) (b o : ℕ) (buffer : List ℕ) (s l k : ℕ) (a : Answer) (after : List ℕ)
     → first_refusal (refusals st (length v) (read b o buffer)) ≡ none → s ≡ start_of (place (map_of st) b) → l ≡ length_of (place (map_of st) b)
     → k ≡ count_moved l o (length buffer) → a ≡ move_answer k (length buffer) → after ≡ take k (drop (s + o) v) ++ drop k buffer
-    → result a st v after ≡ step st v (read b o buffer)
+    → result_of a st v after ≡ step st v (read b o buffer)
 unfolding perform effect buffer_of
 read_step st v b o buffer s l k a after n es el ek ea eb = rw (eb, ea, ek, es, el) (allowed_step st v (read b o buffer) n)
 
@@ -169,24 +169,24 @@ pub write_step : (st : State) (v : List ℕ) (b o : ℕ) (new : List ℕ) (s l k
     → first_refusal (refusals st (length v) (write b o new)) ≡ none → s ≡ start_of (place (map_of st) b) → l ≡ length_of (place (map_of st) b)
     → k ≡ count_moved l o (length new) → a ≡ move_answer k (length new)
     → after ≡ edit (λ i old. changed_byte st.attributes (write_change (s + o) k new i) old) 0 v
-    → result a st after [] ≡ step st v (write b o new)
+    → result_of a st after [] ≡ step st v (write b o new)
 unfolding perform effect buffer_of
 write_step st v b o new s l k a after n es el ek ea eb = rw (eb, ea, ek, es, el) (allowed_step st v (write b o new) n)
 
 pub size_step : (st : State) (v : List ℕ) (b e s l r n : ℕ)
     → first_refusal (refusals st (length v) (get_block_size b)) ≡ none → place (map_of st) b ≡ At e s l r → n ≡ consecutive_blocks (map_of st) b
-    → result (success (l ∷ n ∷ [])) st v [] ≡ step st v (get_block_size b)
+    → result_of (success (l ∷ n ∷ [])) st v [] ≡ step st v (get_block_size b)
 unfolding perform effect buffer_of length_of
 size_step st v b e s l r n p h k = rw k (rw h at (allowed_step st v (get_block_size b) p))
 
 pub erase_step : (st : State) (v : List ℕ) (list : List ℕ) (x : ℕ) (after : List ℕ)
     → first_refusal (refusals st (length v) (erase_blocks list)) ≡ none → x ≡ erased_byte st.attributes
     → after ≡ edit (λ i old. cond (names list (block_at (map_of st) i)) x old) 0 v
-    → result (success []) st after [] ≡ step st v (erase_blocks list)
+    → result_of (success []) st after [] ≡ step st v (erase_blocks list)
 unfolding perform effect buffer_of changed_byte erase_change
 erase_step st v list x after n ex ea =
     rw (ea, ex)
-    (ap (λ (l : List ℕ). result (success []) st l [])
+    (ap (λ (l : List ℕ). result_of (success []) st l [])
     (edit-same (λ i old. cond (names list (block_at (map_of st) i)) (erased_byte st.attributes) old)
     (λ i old. changed_byte st.attributes (erase_change (map_of st) list i) old) 0 0 v (λ i old h. each (0 + i) old))
     ∙ allowed_step st v (erase_blocks list) n)
@@ -248,7 +248,7 @@ refused_exactly st v c n =
 
 -- a refused call changes nothing: the state, the volume and the buffer are as before
 pub refused_changes_nothing : (st : State) (v : List ℕ) (c : Call) (n : ℕ) → (step st v c).answer ≡ refused n
-    → step st v c ≡ result (refused n) st v (buffer_of c)
+    → step st v c ≡ result_of (refused n) st v (buffer_of c)
 refused_changes_nothing st v c n h = sym (refused-step st v c n ((refused_exactly st v c n).0 h))
 
 -- a call that is not refused passed its whole table
@@ -332,9 +332,9 @@ accept_good st n list e = not-false _ (passed_rows st n write_status _ _ e).0.la
 
 -- 5 after 111
 pub order_5 : (st : State) (v : List ℕ) → unlawful st ≡ false → length v < st.length
-    → ((b o : ℕ) (buffer : List ℕ) → step st v (read b o buffer) ≡ result (refused 5) st v buffer)
-    × ((b o : ℕ) (new : List ℕ) → step st v (write b o new) ≡ result (refused 5) st v [])
-    × ((list : List ℕ) → step st v (erase_blocks list) ≡ result (refused 5) st v [])
+    → ((b o : ℕ) (buffer : List ℕ) → step st v (read b o buffer) ≡ result_of (refused 5) st v buffer)
+    × ((b o : ℕ) (new : List ℕ) → step st v (write b o new) ≡ result_of (refused 5) st v [])
+    × ((list : List ℕ) → step st v (erase_blocks list) ≡ result_of (refused 5) st v [])
 unfolding refusals buffer_of
 order_5 st v ok h = (
   (λ b o buffer. sym (refused-step st v (read b o buffer) 5 (lent_first st _ read_status _ 5 (lent_5 st _ read_status ok h)))),
@@ -345,14 +345,14 @@ order_5 st v ok h = (
 -- 15 after 5
 module _ (st : State) (v : List ℕ) (ok : unlawful st ≡ false) (long : st.length ≤ length v) where
   pub order_15_read : flag st.attributes read_status ≡ false
-      → (b o : ℕ) (buffer : List ℕ) → step st v (read b o buffer) ≡ result (refused 15) st v buffer
+      → (b o : ℕ) (buffer : List ℕ) → step st v (read b o buffer) ≡ result_of (refused 15) st v buffer
   unfolding refusals buffer_of
   order_15_read off b o buffer =
       sym (refused-step st v (read b o buffer) 15 (lent_first st _ read_status _ 15 (lent_15 st _ read_status ok long off)))
 
   pub order_15_write : flag st.attributes write_status ≡ false
-      → ((b o : ℕ) (new : List ℕ) → step st v (write b o new) ≡ result (refused 15) st v [])
-      × ((list : List ℕ) → step st v (erase_blocks list) ≡ result (refused 15) st v [])
+      → ((b o : ℕ) (new : List ℕ) → step st v (write b o new) ≡ result_of (refused 15) st v [])
+      × ((list : List ℕ) → step st v (erase_blocks list) ≡ result_of (refused 15) st v [])
   unfolding refusals buffer_of
   order_15_write off = (
     (λ b o new. sym (refused-step st v (write b o new) 15 (lent_first st _ write_status _ 15 (lent_15 st _ write_status ok long off)))),
@@ -361,14 +361,14 @@ module _ (st : State) (v : List ℕ) (ok : unlawful st ≡ false) (long : st.len
 
   -- 2 after 15
   pub order_2_read : flag st.attributes read_status ≡ true
-      → (b o : ℕ) (buffer : List ℕ) → blocks (map_of st) ≤ b → step st v (read b o buffer) ≡ result (refused 2) st v buffer
+      → (b o : ℕ) (buffer : List ℕ) → blocks (map_of st) ≤ b → step st v (read b o buffer) ≡ result_of (refused 2) st v buffer
   unfolding refusals buffer_of
   order_2_read on b o buffer h =
       sym (refused-step st v (read b o buffer) 2 (lent_2 st _ read_status _ _ (lent_passes st _ read_status ok long on) (le-leb _ _ h)))
 
   pub order_2_write : flag st.attributes write_status ≡ true
-      → ((b o : ℕ) (new : List ℕ) → blocks (map_of st) ≤ b → step st v (write b o new) ≡ result (refused 2) st v [])
-      × ((list : List ℕ) → good_list (blocks (map_of st)) list ≡ false → step st v (erase_blocks list) ≡ result (refused 2) st v [])
+      → ((b o : ℕ) (new : List ℕ) → blocks (map_of st) ≤ b → step st v (write b o new) ≡ result_of (refused 2) st v [])
+      × ((list : List ℕ) → good_list (blocks (map_of st)) list ≡ false → step st v (erase_blocks list) ≡ result_of (refused 2) st v [])
   unfolding refusals buffer_of
   order_2_write on = (
     (λ b o new h. sym (refused-step st v (write b o new) 2 (lent_2 st _ write_status _ _ (lent_passes st _ write_status ok long on) (le-leb _ _ h)))),
@@ -377,9 +377,9 @@ module _ (st : State) (v : List ℕ) (ok : unlawful st ≡ false) (long : st.len
 
   -- 15 after 2: a block that is there and protected, and a good list that names one
   pub order_15_protected : flag st.attributes write_status ≡ true
-      → ((b o : ℕ) (new : List ℕ) → b < blocks (map_of st) → st.protected ≤ b → step st v (write b o new) ≡ result (refused 15) st v [])
+      → ((b o : ℕ) (new : List ℕ) → b < blocks (map_of st) → st.protected ≤ b → step st v (write b o new) ≡ result_of (refused 15) st v [])
       × ((list : List ℕ) → good_list (blocks (map_of st)) list ≡ true → (b : ℕ) → T (names list b) → st.protected ≤ b
-      → step st v (erase_blocks list) ≡ result (refused 15) st v [])
+      → step st v (erase_blocks list) ≡ result_of (refused 15) st v [])
   unfolding refusals buffer_of
   order_15_protected on = (
     (λ b o new h p. sym (refused-step st v (write b o new) 15 (lent_last st _ write_status _ _ (lent_passes st _ write_status ok long on) (lt-leb _ _ h) ∙ row_applies _ _ _ (le-leb _ _ p)))),
@@ -390,25 +390,25 @@ module _ (st : State) (v : List ℕ) (ok : unlawful st ≡ false) (long : st.len
 
 -- 3: the base address of a volume that is not memory mapped
 pub order_3 : (st : State) (v : List ℕ) → unlawful st ≡ false → flag st.attributes memory_mapped ≡ false
-    → step st v get_physical_address ≡ result (refused 3) st v []
+    → step st v get_physical_address ≡ result_of (refused 3) st v []
 unfolding refusals buffer_of
 order_3 st v ok off = sym (refused-step st v get_physical_address 3 (row_passes _ _ _ _ ok (row_applies _ _ _ (ap not off))))
 
 -- 2: the size of no such block
 pub order_2_size : (st : State) (v : List ℕ) (b : ℕ) → unlawful st ≡ false → blocks (map_of st) ≤ b
-    → step st v (get_block_size b) ≡ result (refused 2) st v []
+    → step st v (get_block_size b) ≡ result_of (refused 2) st v []
 unfolding refusals buffer_of
 order_2_size st v b ok h = sym (refused-step st v (get_block_size b) 2 (row_passes _ _ _ _ ok (row_applies _ _ _ (le-leb _ _ h))))
 
 -- ---- the answers of the calls that no row refuses and that are not lent the volume
 
 -- the settings, of a lawful state
-pub settings_read : (st : State) (v : List ℕ) → unlawful st ≡ false → step st v get_attributes ≡ result (success (st.attributes ∷ [])) st v []
+pub settings_read : (st : State) (v : List ℕ) → unlawful st ≡ false → step st v get_attributes ≡ result_of (success (st.attributes ∷ [])) st v []
 unfolding refusals buffer_of perform effect
 settings_read st v ok = sym (allowed_step st v get_attributes (row_passes _ _ _ _ ok no_row))
 
 -- the base address, of one that is memory mapped
 pub address_read : (st : State) (v : List ℕ) → unlawful st ≡ false → flag st.attributes memory_mapped ≡ true
-    → step st v get_physical_address ≡ result (success (st.base ∷ [])) st v []
+    → step st v get_physical_address ≡ result_of (success (st.base ∷ [])) st v []
 unfolding refusals buffer_of perform effect
 address_read st v ok on = sym (allowed_step st v get_physical_address (row_passes _ _ _ _ ok (row_passes _ _ _ _ (ap not on) no_row)))

@@ -13,7 +13,7 @@ use Rattle.numbers.specs.LittleEndian.{le_bytes}
 use Rattle.numbers.proofs.LittleEndian.{le-le_bytes, length-le_bytes}
 use Rattle.volume.specs.declared.state.State.{State}
 use Rattle.block_service.specs.Erase.{list_words}
-use Rattle.block_service.specs.Service.{Result, buffer_of, result, step, erase_blocks, accept_erase, carry_erase, accepted_answer, progress_answer}
+use Rattle.block_service.specs.Service.{Result, buffer_of, result_of, step, erase_blocks, accept_erase, carry_erase, accepted_answer, progress_answer}
 use Rattle.block_service.proofs.Theorems.{accept_as_erase, order_within, refused_changes_nothing, two_operations}
 use Rattle.block_service.specs.declared.service.Accepted as Accepted
 use Rattle.block_service.specs.declared.service.Progress as Progress
@@ -42,7 +42,7 @@ module _ (state volume list job : List ℕ) where
     accept_few_job h = rw (enough (length state) state_bytes _ (some 5) long (few (length job) job_bytes [] h))
 
     module _ (room : job_bytes ≤ length job) (accepted : Accepted.Accepted) (st : State)
-        (is : result (accepted_answer accepted) st volume [] ≡ step (unpacked state) volume (accept_erase (list_words list))) where
+        (is : result_of (accepted_answer accepted) st volume [] ≡ step (unpacked state) volume (accept_erase (list_words list))) where
       pub accept_done : (x : ℕ) (after : List ℕ) → accepted ≡ Accepted.TheVariants.Job x → after ≡ le_bytes job_bytes x ++ drop job_bytes job
           → called 0 (after ∷ []) ≡ accept_call state volume list job
       unfolding accept_call accepted_answer number_of values_of job_stored
@@ -65,7 +65,7 @@ module _ (state volume list job : List ℕ) (stores : ℕ) where
     carry_few_job h = rw (enough (length state) state_bytes _ (some 5) long (few (length job) job_bytes [] h))
 
     module _ (room : job_bytes ≤ length job) (last : ℕ) (read : last ≡ job_in job) (progress : Progress.Progress) (st : State) (volume' : List ℕ)
-        (is : result (progress_answer progress) st volume' [] ≡ step (unpacked state) volume (carry_erase (list_words list) last stores)) where
+        (is : result_of (progress_answer progress) st volume' [] ≡ step (unpacked state) volume (carry_erase (list_words list) last stores)) where
       pub carry_finished : progress ≡ Progress.TheVariants.Finished → called 0 (volume' ∷ job ∷ []) ≡ carry_call state volume list job stores
       unfolding carry_call progress_answer number_of values_of job_stored
       carry_finished e = rw (enough (length state) state_bytes _ none long (enough (length job) job_bytes [] none room no_row), ← read, ← is, e)
@@ -91,7 +91,7 @@ two_calls state v list job stores long room enough-stores e =
     let st = unpacked state in
     let words = list_words list in
     let kept : List ℕ = le_bytes job_bytes 0 ++ drop job_bytes job in
-    let accepted : step st v (accept_erase words) ≡ result (success (0 ∷ [])) st v [] = (accept_as_erase st v words).0 e in
+    let accepted : step st v (accept_erase words) ≡ result_of (success (0 ∷ [])) st v [] = (accept_as_erase st v words).0 e in
     let answer : (step st v (accept_erase words)).answer ≡ success (0 ∷ []) = ap (λ (r : Result). r.answer) accepted in
     let whole = order_within st v words (0 ∷ []) answer in
     let carried = (two_operations st v words stores (omega arith)).1 0 answer in

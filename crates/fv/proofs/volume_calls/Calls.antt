@@ -10,7 +10,7 @@ use Rattle.volume.specs.Header.{opens, open_volume, opening_answer}
 use Rattle.volume.specs.declared.header.Opening as Opening
 use Rattle.volume.specs.declared.state.State.{State}
 use Rattle.block_service.specs.Erase.{list_words}
-use Rattle.block_service.specs.Service.{result, step, read, write, erase_blocks, erased_answer}
+use Rattle.block_service.specs.Service.{result_of, step, read, write, erase_blocks, erased_answer}
 use Rattle.block_service.specs.declared.service.Erased as Erased
 use Rattle.fv.specs.Answer.{answer_bytes, answer_stored}
 use Rattle.fv.specs.Called.{called}
@@ -48,7 +48,7 @@ module _ (state volume : List ℕ) (block offset : ℕ) (buffer answer : List �
     read_few_answer h = rw (enough (length state) state_bytes _ (some 5) long (few (length answer) answer_bytes [] h))
 
     pub read_done : answer_bytes ≤ length answer
-        → (a : Answer) (st : State) (number : ℕ) (buffer' answer' : List ℕ) → result a st volume buffer' ≡ step (unpacked state) volume (read block offset buffer)
+        → (a : Answer) (st : State) (number : ℕ) (buffer' answer' : List ℕ) → result_of a st volume buffer' ≡ step (unpacked state) volume (read block offset buffer)
         → (number ≡ number_of a) × (answer' ≡ answer_stored (values_of a) answer)
         → called number (buffer' ∷ answer' ∷ []) ≡ read_call state volume block offset buffer answer
     unfolding read_call
@@ -66,7 +66,7 @@ module _ (state volume : List ℕ) (block offset : ℕ) (new answer : List ℕ) 
     write_few_answer h = rw (enough (length state) state_bytes _ (some 5) long (few (length answer) answer_bytes [] h))
 
     pub write_done : answer_bytes ≤ length answer
-        → (a : Answer) (st : State) (number : ℕ) (volume' answer' : List ℕ) → result a st volume' [] ≡ step (unpacked state) volume (write block offset new)
+        → (a : Answer) (st : State) (number : ℕ) (volume' answer' : List ℕ) → result_of a st volume' [] ≡ step (unpacked state) volume (write block offset new)
         → (number ≡ number_of a) × (answer' ≡ answer_stored (values_of a) answer)
         → called number (volume' ∷ answer' ∷ []) ≡ write_call state volume block offset new answer
     unfolding write_call
@@ -81,7 +81,7 @@ module _ (state volume list : List ℕ) where
   erase_few h = rw (few (length state) state_bytes [] h)
 
   module _ (long : state_bytes ≤ length state) (erased : Erased.Erased) (st : State) (volume' : List ℕ)
-      (is : result (erased_answer erased) st volume' [] ≡ step (unpacked state) volume (erase_blocks (list_words list))) where
+      (is : result_of (erased_answer erased) st volume' [] ≡ step (unpacked state) volume (erase_blocks (list_words list))) where
     pub erase_done : erased ≡ Erased.TheVariants.Success → called 0 (volume' ∷ []) ≡ erase_call state volume list
     unfolding erase_call erased_answer number_of
     erase_done e = rw (enough (length state) state_bytes [] none long no_row, ← is, e)

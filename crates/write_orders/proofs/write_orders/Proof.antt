@@ -54,7 +54,7 @@ use Rattle.volume.specs.Attributes.{write_status}
 use Rattle.volume.specs.declared.state.State.{State}
 use Rattle.volume.specs.contracts.state.State as S
 use Rattle.volume.proofs.state.State.TheLaws as S'
-use Rattle.block_service.specs.Service.{step, result, moved_answer, lent_refusals}
+use Rattle.block_service.specs.Service.{step, result_of, moved_answer, lent_refusals}
 use Rattle.isolation.specs.Runs.{is_success}
 use Rattle.write_orders.specs.Orders.{call_of, write_orders, written_of, first_stage, counted}
 use Rattle.write_orders.specs.declared.Order.{Order}
@@ -272,7 +272,7 @@ module _ {M : Type 1} {𝓤 : Ura M} (𝓛 : Logic 𝓤) (mem : Memory → SProp
     -- what `next` ensures, at the volume's last list
     abbrev Did : List ℕ → Order → ℕ → Stage → List ℕ → Type 0
     Did v o k r after =
-        (result (moved_answer r.written.last) st after [] ≡ step st v (call_of st ds o))
+        (result_of (moved_answer r.written.last) st after [] ≡ step st v (call_of st ds o))
         × (r.written.count ≡ counted (moved_answer r.written.last) k)
         × (r.going ≡ is_success (moved_answer r.written.last) && ltb (k + 1) (length os))
 

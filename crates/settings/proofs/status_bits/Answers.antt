@@ -4,8 +4,7 @@ use mathlib.Core.Path.{◌≡◌}
 use borrow.Author.Rules.{rules}
 use borrow.Author.Tests.{ne_eqb}
 use Rattle.settings.specs.Settings.{status_bits}
-use Rattle.settings.proofs.status_bits.Statement.{statement}
-use Rattle.settings.proofs.status_bits.Tie as tie
+use Rattle.settings.proofs.status_bits.Goals as goal
 
 second : (edition : ℕ) → edition ≡ 2 → 0xA0A4 ≡ status_bits edition
 unfolding status_bits
@@ -15,11 +14,8 @@ other : (edition : ℕ) → (edition ≡ 2 → ⊥) → 0xA4 ≡ status_bits edi
 unfolding status_bits
 other edition e = rw (ne_eqb edition 2 e)
 
-returns : tie.Need-returns
-returns c = second _ (search rules)
+pub returns-then-edition-eq2 : goal.returns-then-edition-eq2
+returns-then-edition-eq2 c = second _ (search rules)
 
-returns-2 : tie.Need-returns-2
-returns-2 c = other _ (search rules)
-
-pub status-bits-spec : {M : Type 1} → statement M
-status-bits-spec = tie.close (tie.spec returns returns-2)
+pub returns : goal.returns
+returns c = other _ (search rules)
