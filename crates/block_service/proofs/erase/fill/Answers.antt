@@ -1,0 +1,21 @@
+-- `block_service::erase::fill` meets its contract.
+use Prim.Native.Nat.{◌-◌, ◌≤◌}
+use mathlib.Core.Path.{◌≡◌, refl, sym, ◌∙◌}
+use native.Mathlib.Omega.{arith}
+use borrow.Author.Rules.{rules}
+use lib.ListN.{length, length-set}
+use Rattle.common.specs.Lists.{edit}
+use Rattle.common.proofs.Edit.{edited_to, edit_start, edit_next, edit_done}
+use Rattle.block_service.proofs.erase.fill.Goals as goal
+
+pub loop-i-init : goal.loop-i-init
+loop-i-init c = (search rules, search rules, edit_start _ _)
+
+pub loop-i-smaller : goal.loop-i-smaller
+loop-i-smaller c = simp length-set (omega arith)
+
+pub loop-i-preserved : goal.loop-i-preserved
+loop-i-preserved c = (simp length-set (search rules), simp length-set (search rules), edit_next _ _ _ _ (search rules) refl ∙ c.loop-i.invariant.2)
+
+pub returns : goal.returns
+returns c = sym (edit_done _ _ _ (search rules)) ∙ c.loop-i.invariant.2
