@@ -16,9 +16,7 @@ use Rattle.receiver.specs.declared.place.Phase.TheVariants.{Header, Body, Paddin
 use Rattle.receiver.specs.declared.place.Place.{Place}
 use Rattle.receiver.specs.declared.receiver.Receiver.{Receiver}
 use Rattle.receiver.specs.declared.receiver.Announcement.{Announcement}
-use Rattle.receiver.specs.declared.receiver.Announcement.TheVariants as Announcement
 use Rattle.receiver.specs.declared.receiver.Received.{Received}
-use Rattle.receiver.specs.declared.receiver.Received.TheVariants as Received
 
 -- the levels of a walk, and the bytes of the longest header
 abbrev pub levels : ℕ

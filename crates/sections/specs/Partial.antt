@@ -7,7 +7,6 @@ use Rattle.sections.specs.declared.header.Mode.{Mode}
 use Rattle.sections.specs.declared.header.Head.{Head}
 use Rattle.sections.specs.declared.header.Head.TheVariants.{Fault, Closed, Open}
 use Rattle.sections.specs.declared.partial.Partial.{Partial}
-use Rattle.sections.specs.declared.partial.Partial.TheVariants as Partial
 
 -- the bytes of a size field, of a GUID and of a data offset
 abbrev pub size_field_bytes : ℕ

@@ -8,7 +8,6 @@ use Rattle.sections.specs.Partial.{partial_of}
 use Rattle.sections.specs.Walk.{stream_limit}
 use Rattle.sections.specs.declared.header.Mode.{Mode}
 use Rattle.sections.specs.declared.partial.Partial.{Partial}
-use Rattle.sections.specs.declared.partial.Partial.TheVariants as Partial
 use Rattle.receiver.specs.Tally.{wrapped, counted, visited}
 use Rattle.receiver.specs.Place.{with_phase, arrived, entered}
 use Rattle.receiver.specs.Receiver.{levels, begun, not_announced, announced, announce_of, refused, met, looked, passed, padding_step}

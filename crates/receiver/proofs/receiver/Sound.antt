@@ -7,7 +7,6 @@ use Rattle.sections.specs.Types.{type_info}
 use Rattle.sections.specs.Partial.{needed, decided, partial_of}
 use Rattle.sections.specs.declared.header.Mode.{Mode}
 use Rattle.sections.specs.declared.partial.Partial.{Partial}
-use Rattle.sections.specs.declared.partial.Partial.TheVariants as Partial
 use Rattle.sections.proofs.types.Rows.{both}
 use Rattle.sections.proofs.partial.Views.{part_is, needed_most}
 use Rattle.receiver.specs.Tally.{wrapped}

@@ -20,7 +20,6 @@ use Rattle.sections.specs.declared.header.Head.{Head}
 use Rattle.sections.specs.declared.header.Head.TheVariants.{Fault, Closed, Open}
 use Rattle.sections.specs.declared.header.Size.TheVariants.{Refused, Leaf, Holder}
 use Rattle.sections.specs.declared.partial.Partial.{Partial}
-use Rattle.sections.specs.declared.partial.Partial.TheVariants as Partial
 use Rattle.sections.proofs.types.Rows.{least_range}
 use Rattle.sections.proofs.header.Decided.{own_least}
 use Rattle.sections.proofs.header.Sizes.{Fits, header_range, size_none, size_201, size_201_long, size_202, size_203}

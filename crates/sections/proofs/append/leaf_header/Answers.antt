@@ -1,6 +1,5 @@
 -- `leaf_header` meets its contract: in Framework mode a header is short, in PI mode it is long where a short one would not do.
 use mathlib.Core.Path.{sym}
-use borrow.Author.Rules.{rules}
 use native.Mathlib.Omega.{arith}
 use Rattle.sections.proofs.append.Refusals.{append_long, append_short, append_framework}
 use Rattle.sections.proofs.append.leaf_header.Goals as goal

@@ -1,5 +1,4 @@
 -- `oversized` meets its contract: in Framework mode it is the test of the size, in PI mode no size is too large.
-use borrow.Author.Rules.{rules}
 use Rattle.sections.proofs.append.oversized.Goals as goal
 
 pub returns-in-Framework : goal.returns-in-Framework

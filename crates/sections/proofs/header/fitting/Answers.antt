@@ -1,6 +1,4 @@
 -- `fitting` meets its contract.
-use mathlib.Core.Path.{◌≡◌}
-use borrow.Author.Rules.{rules}
 use borrow.Author.Tests.{lt-ltb, le-ltb}
 use Rattle.sections.proofs.header.fitting.Goals as goal
 

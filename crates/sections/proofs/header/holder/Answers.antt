@@ -1,5 +1,4 @@
 -- `holder` meets its contract: the tests of a GUID-defined section's own fields.
-use Prim.Native.Nat.{◌+◌}
 use mathlib.Core.Path.{◌∙◌}
 use native.Mathlib.Omega.{arith}
 use Rattle.numbers.proofs.LittleEndian.{le_two}

@@ -1,5 +1,4 @@
 -- `is_long` meets its contract, mode by mode.
-use borrow.Author.Rules.{rules}
 use Rattle.sections.specs.Header.{is_long}
 use Rattle.sections.proofs.header.is_long.Goals as goal
 

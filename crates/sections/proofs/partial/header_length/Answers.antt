@@ -1,6 +1,5 @@
 -- `header_length` meets its contract.
 use mathlib.Core.Path.{sym, ◌∙◌}
-use borrow.Author.Rules.{rules}
 use Rattle.sections.proofs.partial.header_length.Goals as goal
 
 pub returns-then-is_long : goal.returns-then-is_long

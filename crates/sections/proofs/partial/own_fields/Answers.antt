@@ -1,7 +1,6 @@
 -- `own_fields` meets its contract, class by class.
 use mathlib.Core.Path.{◌≡◌, ap}
 use native.Mathlib.Omega.{arith}
-use borrow.Author.Rules.{rules}
 use Rattle.sections.specs.Types.{type_info}
 use Rattle.sections.specs.declared.types.TypeInfo.{TypeInfo}
 use Rattle.sections.proofs.types.Rows.{least_range}

@@ -1,6 +1,5 @@
 -- `search` meets its contract: `sought` that goes on is the search.
 use mathlib.Core.Path.{◌∙◌}
-use borrow.Author.Rules.{rules}
 use Rattle.sections.proofs.search.Shown.{search_from}
 use Rattle.sections.proofs.search.search.Goals as goal
 

@@ -1,7 +1,6 @@
 -- `search_first` meets its contract: `sought` that passes none and stops is the search for the first.
 use mathlib.Core.Path.{◌∙◌}
 use native.Mathlib.Omega.{arith}
-use borrow.Author.Rules.{rules}
 use Rattle.sections.proofs.walk.Carried.{run_first}
 use Rattle.sections.proofs.search.search_first.Goals as goal
 

@@ -1,5 +1,4 @@
 -- `stream_limit` meets its contract: each arm of the match is a mode's limit.
-use borrow.Author.Rules.{rules}
 use Rattle.sections.specs.Walk.{stream_limit}
 use Rattle.sections.proofs.search.stream_limit.Goals as goal
 

@@ -1,6 +1,5 @@
 -- `type_info` meets its contract: each arm of the match is a row of the list of types, and the last one is what no row has.
 use mathlib.Core.Path.{sym, ap, ◌∙◌}
-use borrow.Author.Rules.{rules}
 use Rattle.sections.specs.Types.{info_among, type_info}
 use Rattle.sections.proofs.types.Rows.{unlisted}
 use Rattle.sections.proofs.types.type_info.Goals as goal

@@ -1,8 +1,6 @@
 -- `zero_bytes` meets its contract. The loop's invariant: the bytes still to come decide.
-use Prim.Native.Nat.{◌≤◌, ◌+◌, ◌-◌}
-use mathlib.Core.Path.{◌≡◌, ◌∙◌}
+use mathlib.Core.Path.{◌∙◌}
 use borrow.Author.Rules.{rules}
-use Rattle.sections.specs.Walk.{zeros}
 use Rattle.sections.proofs.walk.Padding.{zeros_whole, zeros_end, zeros_ended, zeros_stop, zeros_more}
 use Rattle.sections.proofs.walk.zero_bytes.Goals as goal
 

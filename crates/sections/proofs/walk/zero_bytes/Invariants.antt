@@ -1,9 +1,7 @@
 -- `zero_bytes` meets its contract. The loop's invariant: the bytes still to come decide.
 use Prim.Native.Nat.{◌≤◌, ◌+◌, ◌-◌}
-use mathlib.Core.Path.{◌≡◌, ◌∙◌}
-use borrow.Author.Rules.{rules}
+use mathlib.Core.Path.{◌≡◌}
 use Rattle.sections.specs.Walk.{zeros}
-use Rattle.sections.proofs.walk.Padding.{zeros_whole, zeros_end, zeros_ended, zeros_stop, zeros_more}
 use Rattle.sections.proofs.walk.zero_bytes.Given as goal
 
 abbrev pub invariant-loop-i : goal.invariant-loop-i
