@@ -13,51 +13,54 @@ mod streams;
 use crate::calls::run_case;
 use crate::headers::{entry_case, list_case, open_case, sum_case, write_case, write_pi_case};
 use crate::portions::receive_case;
-use crate::script::{item, number, prefix};
+use crate::script::{item, number, prefix, read_full};
 use crate::streams::{append_case, first_case, search_case};
+use std::io;
 
 // The most bytes of a script.
 const SCRIPT: usize = 1376256;
 
-fn main() {
+fn main(rt: HostRuntime) -> io::Result<()> {
     let mut input = [0u8; SCRIPT];
-    run_input(&mut input);
+    run_input(&rt, &mut input)
 }
 
 // Proofs take an array that is lent by its length alone; one of the function's own they write out, byte by byte.
-fn run_input(input: &mut [u8; SCRIPT]) {
-    run_read(input);
+fn run_input(rt: &(impl Input + Print), input: &mut [u8; SCRIPT]) -> io::Result<()> {
+    run_read(rt, input)
 }
 
-fn run_read(input: &mut [u8]) {
-    let n = io::read_full(libc::STDIN_FILENO, input);
-    run_script(prefix(input, n));
+fn run_read(rt: &(impl Input + Print), input: &mut [u8]) -> io::Result<()> {
+    let n = read_full(&mut rt.reader(), input)?;
+    run_script(rt, prefix(input, n))
 }
 
 // A script is a list: the number of cases, then the cases.
-fn run_script(script: &[u8]) {
+fn run_script(out: &impl Print, script: &[u8]) -> io::Result<()> {
     let cases = number(script, 0);
     let mut k = 0;
     while k < cases {
         k += 1;
-        one_case(item(script, k as usize));
+        one_case(out, item(script, k as usize))?;
     }
+    Ok(())
 }
 
 // A case is a list: its name, what is called, and the arguments.
-fn one_case(case: &[u8]) {
+fn one_case(out: &impl Print, case: &[u8]) -> io::Result<()> {
     let called = number(case, 1);
     match called {
-        0 => open_case(case),
-        1 => write_case(case),
-        2 => list_case(case),
-        3 => run_case(case),
-        4 => search_case(case),
-        5 => append_case(case),
-        6 => sum_case(case),
-        7 => write_pi_case(case),
-        8 => entry_case(case),
-        10 => receive_case(case),
-        _ => first_case(case),
+        0 => open_case(out, case)?,
+        1 => write_case(out, case)?,
+        2 => list_case(out, case)?,
+        3 => run_case(out, case)?,
+        4 => search_case(out, case)?,
+        5 => append_case(out, case)?,
+        6 => sum_case(out, case)?,
+        7 => write_pi_case(out, case)?,
+        8 => entry_case(out, case)?,
+        10 => receive_case(out, case)?,
+        _ => first_case(out, case)?,
     }
+    Ok(())
 }

@@ -5,6 +5,7 @@ use crate::script::{item, least, number, part, prefix};
 use crate::streams::{called, mode_of};
 use numbers::{byte_at, u64_at};
 use receiver::{Announced, Announcement, Received, Receiver, announce, fault, finish, portion};
+use std::io;
 use std::num::{wrapping_add_usize, wrapping_sub_usize};
 
 // What a reception came to: the finish's answer, zeros beside a refusal's number, and the fault found.
@@ -19,40 +20,41 @@ struct Outcome {
 
 // Receiving: the bytes that come, the type, the instance, the total announced, the portions' lengths, and
 // in PI mode the mode.
-pub(crate) fn receive_case(case: &[u8]) {
+pub(crate) fn receive_case(out: &impl Print, case: &[u8]) -> io::Result<()> {
     let mode = number(case, 7);
     let section_type = byte_at(item(case, 3), 0);
-    begin(case, called(mode, b"receive", b"receive pi"));
-    field(section_type as u64);
-    field(number(case, 4));
-    field(number(case, 5));
+    begin(out, case, called(mode, b"receive", b"receive pi"))?;
+    field(out, section_type as u64)?;
+    field(out, number(case, 4))?;
+    field(out, number(case, 5))?;
     let announced = announce(
         mode_of(mode),
         section_type,
         number(case, 4),
         number(case, 5) as usize,
     );
-    receive_fields(case, announced);
-    end();
+    receive_fields(out, case, announced)?;
+    end(out)
 }
 
-fn receive_fields(case: &[u8], announced: Announced) {
+fn receive_fields(out: &impl Print, case: &[u8], announced: Announced) -> io::Result<()> {
     let bytes = item(case, 2);
-    field(bytes.len() as u64);
+    field(out, bytes.len() as u64)?;
     let answer = announced.answer;
-    announcement_field(answer);
+    announcement_field(out, answer)?;
     let new = announced.receiver;
     let listed = finished(in_portions(bytes, item(case, 6), new));
-    outcome_fields(listed);
-    fault_fields(bytes, new);
-    alike_field(bytes, new, listed);
+    outcome_fields(out, listed)?;
+    fault_fields(out, bytes, new)?;
+    alike_field(out, bytes, new, listed)
 }
 
-fn announcement_field(answer: Announcement) {
+fn announcement_field(out: &impl Print, answer: Announcement) -> io::Result<()> {
     match answer {
-        Announcement::Accepted => field(0),
-        Announcement::Refused(no) => field(no as u64),
+        Announcement::Accepted => field(out, 0)?,
+        Announcement::Refused(no) => field(out, no as u64)?,
     }
+    Ok(())
 }
 
 // The bytes in portions of the lengths listed, 64-bit numbers, and what is left as one portion.
@@ -111,25 +113,26 @@ fn finished(r: Receiver) -> Outcome {
 }
 
 // The finish's answer.
-fn outcome_fields(o: Outcome) {
-    field(o.number as u64);
+fn outcome_fields(out: &impl Print, o: Outcome) -> io::Result<()> {
+    field(out, o.number as u64)?;
     if o.number == 0 {
-        field(o.count);
-        field(o.first as u64);
-        field(o.end as u64);
+        field(out, o.count)?;
+        field(out, o.first as u64)?;
+        field(out, o.end as u64)?;
     }
+    Ok(())
 }
 
 // After how many single bytes a fault was found, and which; a dash and 0 where none was.
-fn fault_fields(bytes: &[u8], new: Receiver) {
+fn fault_fields(out: &impl Print, bytes: &[u8], new: Receiver) -> io::Result<()> {
     let n = bytes_to_fault(bytes, new);
     let no = fault(in_bytes(prefix(bytes, n), new));
     if no == 0 {
-        text(b"\t-");
+        text(out, b"\t-")?;
     } else {
-        field(n as u64);
+        field(out, n as u64)?;
     }
-    field(no as u64);
+    field(out, no as u64)
 }
 
 // After how many single bytes a fault is found; all of them where none is.
@@ -148,14 +151,14 @@ fn bytes_to_fault(bytes: &[u8], new: Receiver) -> usize {
 
 // How many of the other receptions came to the same, and how many there are: one in single bytes, and one in
 // two portions for each cut.
-fn alike_field(bytes: &[u8], new: Receiver, listed: Outcome) {
+fn alike_field(out: &impl Print, bytes: &[u8], new: Receiver, listed: Outcome) -> io::Result<()> {
     let singly = alike(finished(in_bytes(bytes, new)), listed);
-    field(wrapping_add_usize(singly, cuts_alike(bytes, new, listed)) as u64);
-    text(b" of ");
-    io::print_decimal(
-        libc::STDOUT_FILENO,
-        wrapping_add_usize(bytes.len(), 2) as u64,
-    );
+    field(
+        out,
+        wrapping_add_usize(singly, cuts_alike(bytes, new, listed)) as u64,
+    )?;
+    text(out, b" of ")?;
+    out.print(wrapping_add_usize(bytes.len(), 2))
 }
 
 fn cuts_alike(bytes: &[u8], new: Receiver, listed: Outcome) -> usize {

@@ -3,53 +3,57 @@ ghost use Rattle.std.specs.Prelude.{◌≤◌};
 
 use crate::script::{item, part, prefix};
 use numbers::byte_at;
+use std::io;
 use std::num::{wrapping_add_usize, wrapping_sub_usize};
 
-pub(crate) fn text(s: &[u8]) {
-    io::write_all(libc::STDOUT_FILENO, s);
+pub(crate) fn text(out: &impl Print, s: &[u8]) -> io::Result<()> {
+    out.write_all(s)
 }
 
 // Begins a line: the case's name and what is called.
-pub(crate) fn begin(case: &[u8], call: &[u8]) {
-    text(item(case, 0));
-    text(b"\t");
-    text(call);
+pub(crate) fn begin(out: &impl Print, case: &[u8], call: &[u8]) -> io::Result<()> {
+    text(out, item(case, 0))?;
+    text(out, b"\t")?;
+    text(out, call)
 }
 
-pub(crate) fn end() {
-    text(b"\n");
+pub(crate) fn end(out: &impl Print) -> io::Result<()> {
+    text(out, b"\n")
 }
 
-pub(crate) fn field(x: u64) {
-    text(b"\t");
-    io::print_decimal(libc::STDOUT_FILENO, x);
+pub(crate) fn field(out: &impl Print, x: u64) -> io::Result<()> {
+    text(out, b"\t")?;
+    out.print(x)
 }
 
 // The first bytes of a slice, at most 16, in hexadecimal.
-pub(crate) fn bytes_field(s: &[u8]) {
-    text(b"\t");
+pub(crate) fn bytes_field(out: &impl Print, s: &[u8]) -> io::Result<()> {
+    text(out, b"\t")?;
     let shown = prefix(s, 16);
     let mut i = 0;
     while i < shown.len() {
-        io::print_hex(libc::STDOUT_FILENO, wide(shown[i]), 2);
+        let x = shown[i];
+        print!(out; "{x:02x}")?;
         i += 1;
     }
+    Ok(())
 }
 
 // The words of a map that are not zero, each with its place.
-pub(crate) fn words_field(words: &[u32]) {
-    text(b"\t");
+pub(crate) fn words_field(out: &impl Print, words: &[u32]) -> io::Result<()> {
+    text(out, b"\t")?;
     let mut i = 0;
     while i < words.len() {
         let x = word(words[i]);
         if x != 0 {
-            io::print_decimal(libc::STDOUT_FILENO, i as u64);
-            text(b":");
-            io::print_decimal(libc::STDOUT_FILENO, x);
-            text(b",");
+            out.print(i)?;
+            text(out, b":")?;
+            out.print(x)?;
+            text(out, b",")?;
         }
         i += 1;
     }
+    Ok(())
 }
 
 fn word(x: u32) -> u64 {
@@ -57,36 +61,40 @@ fn word(x: u32) -> u64 {
 }
 
 // A text with a bar for each line feed.
-pub(crate) fn lines_field(s: &[u8]) {
-    text(b"\t");
+pub(crate) fn lines_field(out: &impl Print, s: &[u8]) -> io::Result<()> {
+    text(out, b"\t")?;
     let mut i = 0;
     while i < s.len() {
         if s[i] == 10 {
-            text(b"|");
+            text(out, b"|")?;
         } else {
-            text(part(s, i, 1));
+            text(out, part(s, i, 1))?;
         }
         i += 1;
     }
+    Ok(())
 }
 
 // What became of lent bytes: how many changed, the first and the last that did, the first bytes from
 // there on, and a checksum of all of them as they are now.
-pub(crate) fn change_fields(before: &[u8], after: &[u8]) {
+pub(crate) fn change_fields(out: &impl Print, before: &[u8], after: &[u8]) -> io::Result<()> {
     let count = changes(before, after);
-    field(count as u64);
+    field(out, count as u64)?;
     if 0 < count {
         let first = first_change(before, after);
         let last = last_change(before, after);
-        field(first as u64);
-        field(last as u64);
-        bytes_field(part(
-            after,
-            first,
-            wrapping_sub_usize(wrapping_add_usize(last, 1), first),
-        ));
+        field(out, first as u64)?;
+        field(out, last as u64)?;
+        bytes_field(
+            out,
+            part(
+                after,
+                first,
+                wrapping_sub_usize(wrapping_add_usize(last, 1), first),
+            ),
+        )?;
     }
-    field(checksum(after));
+    field(out, checksum(after))
 }
 
 fn changes(before: &[u8], after: &[u8]) -> usize {

@@ -1,9 +1,26 @@
 // Reading the script: lists of items, each item an 8-byte length and then its bytes. An item may be a
 // list in turn. Whatever the bytes are, an item that is not there is empty.
-ghost use Rattle.std.specs.Prelude.{◌≤◌};
+ghost use Rattle.std.specs.Prelude.{◌≤◌, IfOk, length};
 
 use numbers::{store_bytes, u16_at, u32_at, u64_at};
+use std::io;
+use std::io::Read;
 use std::num::{wrapping_add_u16, wrapping_add_usize};
+
+// Reads until the buffer is full or the input ends, and answers how many bytes came.
+pub(crate) fn read_full(from: &mut impl Read, buffer: &mut [u8]) -> io::Result<usize>
+    ensures { IfOk result (λ n. n ≤ length buffer.new) }
+{
+    let mut done = 0;
+    while done < buffer.len() {
+        let n = from.read(&mut buffer[done..])?;
+        if n == 0 {
+            return Ok(done);
+        }
+        done += n;
+    }
+    Ok(done)
+}
 
 // The k-th item of a list.
 pub(crate) fn item<'a>(list: &'a [u8], k: usize) -> &'a [u8] {

@@ -20,15 +20,13 @@ use Rattle.dependency.specs.Installed.{installed_in}
 use Rattle.dependency.proofs.opcodes.Single.{tail_is}
 use Rattle.dependency.proofs.evaluation.Runs.{Running, run_start, run_out, run-refused, run_within, run_ended, run_fits, operand_long, run_missing, run_next}
 use Rattle.dependency.proofs.evaluation.run.Goals as goal
-use Rattle.dependency.proofs.evaluation.run.Goals.{In-Opcode-2}
+use Rattle.dependency.proofs.evaluation.run.Goals.{In-Opcode}
 
 pub loop-at-init : goal.loop-at-init
 loop-at-init c = (search rules, search rules, run_start _ _ _ c.requires.1)
 
 -- where an opcode was read: the laws of a turn, at what the loop holds
-module _ (c : In-Opcode-2) where
-
-
+module _ (c : In-Opcode) where
   abbrev s : List ℕ
   s = c.args.expression.now
 
@@ -80,41 +78,41 @@ module _ (c : In-Opcode-2) where
       goes_on = run_next installed s values depth at held _ tail c.read_opcode-read.result c.read_opcode-read.ensures opcode place read h operand cut
 
 pub returns-then-opcode-eq-END : goal.returns-then-opcode-eq-END
-returns-then-opcode-eq-END c = ends (goal.at.returns-then-opcode-eq-END c).In-Opcode-2 (search rules)
+returns-then-opcode-eq-END c = ends (goal.at.returns-then-opcode-eq-END c).In-Opcode (search rules)
 
 pub slice_bounds-operand-count : goal.slice_bounds-operand-count
-slice_bounds-operand-count c = let w = within (goal.at.slice_bounds-operand-count c).In-Opcode-2 in omega arith
+slice_bounds-operand-count c = let w = within (goal.at.slice_bounds-operand-count c).In-Opcode in omega arith
 
 pub slice_bounds-operand-start : goal.slice_bounds-operand-start
-slice_bounds-operand-start c = let w = within (goal.at.slice_bounds-operand-start c).In-Opcode-2 in omega arith
+slice_bounds-operand-start c = let w = within (goal.at.slice_bounds-operand-start c).In-Opcode in omega arith
 
 pub slice_bounds-operand-end : goal.slice_bounds-operand-end
-slice_bounds-operand-end c = let w = within (goal.at.slice_bounds-operand-end c).In-Opcode-2 in omega arith
+slice_bounds-operand-end c = let w = within (goal.at.slice_bounds-operand-end c).In-Opcode in omega arith
 
 pub given_version-given-requires : goal.given_version-given-requires
 given_version-given-requires c =
-    (c.requires.0, long (goal.at.given_version-given-requires c).In-Opcode-2 (search rules) _ refl, c.requires.2, c.requires.3)
+    (c.requires.0, long (goal.at.given_version-given-requires c).In-Opcode (search rules) _ refl, c.requires.2, c.requires.3)
 
 pub step-depth-requires : goal.step-depth-requires
-step-depth-requires c = (fits (goal.at.step-depth-requires c).In-Opcode-2 (search rules), c.loop-at.invariant.1)
+step-depth-requires c = (fits (goal.at.step-depth-requires c).In-Opcode (search rules), c.loop-at.invariant.1)
 
 pub overflow_add-at : goal.overflow_add-at
-overflow_add-at c = let w = within (goal.at.overflow_add-at c).In-Opcode-2 in omega arith
+overflow_add-at c = let w = within (goal.at.overflow_add-at c).In-Opcode in omega arith
 
 pub loop-at-smaller : goal.loop-at-smaller
-loop-at-smaller c = let w = within (goal.at.loop-at-smaller c).In-Opcode-2 in omega arith
+loop-at-smaller c = let w = within (goal.at.loop-at-smaller c).In-Opcode in omega arith
 
 pub loop-at-preserved : goal.loop-at-preserved
 loop-at-preserved c =
-    let w = within (goal.at.loop-at-preserved c).In-Opcode-2 in
+    let w = within (goal.at.loop-at-preserved c).In-Opcode in
     let stepped = c.step-depth.ensures in (
       omega arith,
       stepped.kept ∙ c.loop-at.invariant.1,
-      goes_on (goal.at.loop-at-preserved c).In-Opcode-2 (search rules) _ refl _ c.in-Version.version _ _ c.given_version-given.ensures (search rules) stepped,
+      goes_on (goal.at.loop-at-preserved c).In-Opcode (search rules) _ refl _ c.in-Version.version _ _ c.given_version-given.ensures (search rules) stepped,
     )
 
 pub returns-in-Missing : goal.returns-in-Missing
-returns-in-Missing c = missing (goal.at.returns-in-Missing c).In-Opcode-2 (search rules) _ refl _ c.given_version-given.ensures (search rules)
+returns-in-Missing c = missing (goal.at.returns-in-Missing c).In-Opcode (search rules) _ refl _ c.given_version-given.ensures (search rules)
 
 pub returns-in-Refused : goal.returns-in-Refused
 returns-in-Refused c =

@@ -14,7 +14,6 @@ use Rattle.dependency.proofs.evaluation.step.Goals.{After-effect_of-effect}
 
 -- where the effect was found: how deep the stack is, and where a value goes
 module _ (c : After-effect_of-effect) (x : Effect) (is : c.effect_of-effect.result ≡ x) where
-
   abbrev opcode : ℕ
   opcode = c.args.opcode
 
@@ -58,31 +57,31 @@ pub overflow_sub-top : goal.overflow_sub-top
 overflow_sub-top c = let h = deep (goal.at.overflow_sub-top c).After-effect_of-effect NegatesTruth (search rules) in omega arith
 
 pub overflow_sub-depth : goal.overflow_sub-depth
-overflow_sub-depth c = let h = deep (goal.at.overflow_sub-depth c).In-NegatesTruth-1 NegatesTruth (search rules) in omega arith
+overflow_sub-depth c = let h = deep (goal.at.overflow_sub-depth c).After-effect_of-effect NegatesTruth (search rules) in omega arith
 
 pub overflow_sub-left : goal.overflow_sub-left
 overflow_sub-left c = let h = deep (goal.at.overflow_sub-left c).After-effect_of-effect JoinsTruths (search rules) in omega arith
 
 pub overflow_sub-right : goal.overflow_sub-right
-overflow_sub-right c = let h = deep (goal.at.overflow_sub-right c).In-JoinsTruths-1 JoinsTruths (search rules) in omega arith
+overflow_sub-right c = let h = deep (goal.at.overflow_sub-right c).After-effect_of-effect JoinsTruths (search rules) in omega arith
 
 pub joined-requires : goal.joined-requires
-joined-requires c = coded (goal.at.joined-requires c).In-JoinsTruths-1 JoinsTruths (search rules)
+joined-requires c = coded (goal.at.joined-requires c).After-effect_of-effect JoinsTruths (search rules)
 
 pub overflow_sub-depth-in-JoinsTruths : goal.overflow_sub-depth-in-JoinsTruths
-overflow_sub-depth-in-JoinsTruths c = let h = deep (goal.at.overflow_sub-depth-in-JoinsTruths c).In-JoinsTruths-1 JoinsTruths (search rules) in omega arith
+overflow_sub-depth-in-JoinsTruths c = let h = deep (goal.at.overflow_sub-depth-in-JoinsTruths c).After-effect_of-effect JoinsTruths (search rules) in omega arith
 
 pub overflow_sub-left-in-ComparesVersions : goal.overflow_sub-left-in-ComparesVersions
 overflow_sub-left-in-ComparesVersions c = let h = deep (goal.at.overflow_sub-left-in-ComparesVersions c).After-effect_of-effect ComparesVersions (search rules) in omega arith
 
 pub overflow_sub-right-in-ComparesVersions : goal.overflow_sub-right-in-ComparesVersions
-overflow_sub-right-in-ComparesVersions c = let h = deep (goal.at.overflow_sub-right-in-ComparesVersions c).In-ComparesVersions-1 ComparesVersions (search rules) in omega arith
+overflow_sub-right-in-ComparesVersions c = let h = deep (goal.at.overflow_sub-right-in-ComparesVersions c).After-effect_of-effect ComparesVersions (search rules) in omega arith
 
 pub compared-requires : goal.compared-requires
-compared-requires c = coded (goal.at.compared-requires c).In-ComparesVersions-1 ComparesVersions (search rules)
+compared-requires c = coded (goal.at.compared-requires c).After-effect_of-effect ComparesVersions (search rules)
 
 pub overflow_sub-depth-in-ComparesVersions : goal.overflow_sub-depth-in-ComparesVersions
-overflow_sub-depth-in-ComparesVersions c = let h = deep (goal.at.overflow_sub-depth-in-ComparesVersions c).In-ComparesVersions-1 ComparesVersions (search rules) in omega arith
+overflow_sub-depth-in-ComparesVersions c = let h = deep (goal.at.overflow_sub-depth-in-ComparesVersions c).After-effect_of-effect ComparesVersions (search rules) in omega arith
 
 pub returns-in-PushesVersion : goal.returns-in-PushesVersion
 unfolding Coded
@@ -98,18 +97,18 @@ returns-in-PushesTruth c =
 pub returns-in-NegatesTruth : goal.returns-in-NegatesTruth
 unfolding Coded
 returns-in-NegatesTruth c =
-    let h = deep (goal.at.returns-in-NegatesTruth c).In-NegatesTruth-1 NegatesTruth (search rules) in
-    takes_one (goal.at.returns-in-NegatesTruth c).In-NegatesTruth-1 NegatesTruth (search rules) tt _ (omega arith) _ _ _ c.push-in-NegatesTruth.ensures _ (omega arith) refl (λ m. not_left _ _ _ m _ (coded (goal.at.returns-in-NegatesTruth c).In-NegatesTruth-1 NegatesTruth (search rules)) c.bit-in-NegatesTruth.ensures)
+    let h = deep (goal.at.returns-in-NegatesTruth c).After-effect_of-effect NegatesTruth (search rules) in
+    takes_one (goal.at.returns-in-NegatesTruth c).After-effect_of-effect NegatesTruth (search rules) tt _ (omega arith) _ _ _ c.push-in-NegatesTruth.ensures _ (omega arith) refl (λ m. not_left _ _ _ m _ (coded (goal.at.returns-in-NegatesTruth c).After-effect_of-effect NegatesTruth (search rules)) c.bit-in-NegatesTruth.ensures)
 
 pub returns-in-JoinsTruths : goal.returns-in-JoinsTruths
 returns-in-JoinsTruths c =
-    let h = deep (goal.at.returns-in-JoinsTruths c).In-JoinsTruths-1 JoinsTruths (search rules) in
-    takes_two (goal.at.returns-in-JoinsTruths c).In-JoinsTruths-1 JoinsTruths (search rules) tt _ (omega arith) _ _ _ c.push-in-JoinsTruths.ensures _ _ (omega arith) refl refl c.joined.ensures
+    let h = deep (goal.at.returns-in-JoinsTruths c).After-effect_of-effect JoinsTruths (search rules) in
+    takes_two (goal.at.returns-in-JoinsTruths c).After-effect_of-effect JoinsTruths (search rules) tt _ (omega arith) _ _ _ c.push-in-JoinsTruths.ensures _ _ (omega arith) refl refl c.joined.ensures
 
 pub returns-in-ComparesVersions : goal.returns-in-ComparesVersions
 returns-in-ComparesVersions c =
-    let h = deep (goal.at.returns-in-ComparesVersions c).In-ComparesVersions-1 ComparesVersions (search rules) in
-    takes_two (goal.at.returns-in-ComparesVersions c).In-ComparesVersions-1 ComparesVersions (search rules) tt _ (omega arith) _ _ _ c.push-in-ComparesVersions.ensures _ _ (omega arith) refl refl c.compared.ensures
+    let h = deep (goal.at.returns-in-ComparesVersions c).After-effect_of-effect ComparesVersions (search rules) in
+    takes_two (goal.at.returns-in-ComparesVersions c).After-effect_of-effect ComparesVersions (search rules) tt _ (omega arith) _ _ _ c.push-in-ComparesVersions.ensures _ _ (omega arith) refl refl c.compared.ensures
 
 pub returns-in-LeavesStack : goal.returns-in-LeavesStack
-returns-in-LeavesStack c = stepped_leave _ _ _ _ (start (goal.at.returns-in-LeavesStack c).After-effect_of-effect LeavesStack (search rules)).pre.0 (coded (goal.at.returns-in-LeavesStack c).After-effect_of-effect LeavesStack (search rules))
+returns-in-LeavesStack c = stepped_leave _ _ _ _ (goal.at.returns-in-LeavesStack c).After-effect_of-effect.requires.0 (coded (goal.at.returns-in-LeavesStack c).After-effect_of-effect LeavesStack (search rules))

@@ -1,9 +1,5 @@
 -- `find_version` meets its contract: the rows passed are other GUIDs.
-use Prim.Native.Nat.{◌-◌, ◌≤◌}
-use mathlib.Core.Path.{◌≡◌}
 use borrow.Author.Rules.{rules}
-use lib.ListN.{length, take, drop}
-use Rattle.dependency.specs.Installed.{first_with, installed_in}
 use Rattle.dependency.proofs.installed.Table.{rows_start, rows_end, rows_hit, rows_next}
 use Rattle.dependency.proofs.installed.find_version.Goals as goal
 

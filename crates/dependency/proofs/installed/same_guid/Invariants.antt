@@ -1,12 +1,10 @@
 -- `same_guid` meets its contract: the marks of the bytes passed and the bytes left decide as all the bytes do.
 use Prim.Native.Nat.{◌-◌, ◌≤◌}
 use mathlib.Core.Bool.{◌&&◌}
-use mathlib.Core.Path.{◌≡◌, refl}
-use borrow.Author.Rules.{rules}
+use mathlib.Core.Path.{◌≡◌}
 use lib.Dec.{eqb}
 use lib.ListN.{length, drop}
 use Rattle.dependency.specs.Installed.{same}
-use Rattle.dependency.proofs.installed.Table.{same_end, same_next}
 use Rattle.dependency.proofs.installed.same_guid.Given as goal
 
 abbrev pub invariant-loop-i : goal.invariant-loop-i

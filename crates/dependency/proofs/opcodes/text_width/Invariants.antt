@@ -1,11 +1,8 @@
 -- `text_width` meets its contract: the bytes passed and the width of what is left make the width of the whole.
 use Prim.Native.Nat.{◌+◌, ◌-◌, ◌≤◌}
 use mathlib.Core.Path.{◌≡◌}
-use native.Mathlib.Omega.{arith}
-use borrow.Author.Rules.{rules}
 use lib.ListN.{length, drop}
 use Rattle.dependency.specs.Opcodes.{text_width}
-use Rattle.dependency.proofs.opcodes.Texts.{text_end, text_hit, text_next}
 use Rattle.dependency.proofs.opcodes.text_width.Given as goal
 
 abbrev pub invariant-loop-i : goal.invariant-loop-i

@@ -1,8 +1,7 @@
 -- `write_opcode` meets its contract: each return is a row of the writer's table, and the two stores are one run of stores.
-use mathlib.Core.Path.{sym, ap, ◌∙◌}
+use mathlib.Core.Path.{sym}
 use borrow.Author.Rules.{rules}
-use lib.ListN.{length, length-set}
-use lib.Seq.{length-take-le, length-sets}
+use lib.Seq.{length-take-le}
 use Rattle.dependency.proofs.opcodes.Single.{write_unknown, write_cut, write_short, write_done}
 use Rattle.dependency.proofs.opcodes.write_opcode.Goals as goal
 

@@ -18,15 +18,14 @@ use Rattle.dependency.specs.declared.validation.Next.TheVariants.{Refused, Kinds
 use Rattle.dependency.proofs.opcodes.Single.{tail_is}
 use Rattle.dependency.proofs.validation.Turns.{validate_out, validate_refused, validate_within, validate_ended, validate_stack, validate_next}
 use Rattle.dependency.proofs.validation.validate.Goals as goal
-use Rattle.dependency.proofs.validation.validate.Goals.{In-Opcode-2}
+use Rattle.dependency.proofs.validation.validate.Goals.{In-Opcode}
 
 pub loop-at-init : goal.loop-at-init
 unfolding kinds_of
 loop-at-init c = (search rules, record { within = lit≤ tt; small = lit< tt }, refl)
 
 -- where an opcode was read: the laws of a turn, at what the loop holds
-module _ (c : In-Opcode-2) where
-
+module _ (c : In-Opcode) where
   abbrev s : List ℕ
   s = c.args.expression.now
 
@@ -65,29 +64,28 @@ module _ (c : In-Opcode-2) where
     goes_on = validate_next s at depth kinds same _ (tail_is s at) c.read_opcode-read.result c.read_opcode-read.ensures opcode place read h f coded nx follows
 
 pub returns-then-opcode-eq-END : goal.returns-then-opcode-eq-END
-returns-then-opcode-eq-END c = ends (goal.at.returns-then-opcode-eq-END c).In-Opcode-2 _ (search rules) c.ended.ensures
+returns-then-opcode-eq-END c = ends (goal.at.returns-then-opcode-eq-END c).In-Opcode _ (search rules) c.ended.ensures
 
 pub follow-next-requires : goal.follow-next-requires
 follow-next-requires c = c.loop-at.invariant.1
 
 pub overflow_add-at : goal.overflow_add-at
-overflow_add-at c = let w = within (goal.at.overflow_add-at c).In-Opcode-2 in omega arith
+overflow_add-at c = let w = within (goal.at.overflow_add-at c).In-Opcode in omega arith
 
 pub loop-at-smaller : goal.loop-at-smaller
-loop-at-smaller c = let w = within (goal.at.loop-at-smaller c).In-Opcode-2 in omega arith
+loop-at-smaller c = let w = within (goal.at.loop-at-smaller c).In-Opcode in omega arith
 
 pub loop-at-preserved : goal.loop-at-preserved
 loop-at-preserved c =
-    let w = within (goal.at.loop-at-preserved c).In-Opcode-2 in
+    let w = within (goal.at.loop-at-preserved c).In-Opcode in
     let effect = c.effect_of in
-    let next = c.next-1.given.0 in
-    let turned = goes_on (goal.at.loop-at-preserved c).In-Opcode-2 (search rules) effect.result effect.ensures _ c.follow-next.ensures next.0 next.1.0 (search rules) in
+    let turned = goes_on (goal.at.loop-at-preserved c).In-Opcode (search rules) effect.result effect.ensures _ c.follow-next.ensures c.in-Kinds.new_kinds c.in-Kinds.new_depth (search rules) in
     (omega arith, turned.1, turned.0)
 
 pub returns-in-Refused-next : goal.returns-in-Refused-next
 returns-in-Refused-next c =
     let effect = c.effect_of in
-    refuses (goal.at.returns-in-Refused-next c).In-Opcode-2 (search rules) effect.result effect.ensures _ c.follow-next.ensures _ (search rules)
+    refuses (goal.at.returns-in-Refused-next c).In-Opcode (search rules) effect.result effect.ensures _ c.follow-next.ensures _ (search rules)
 
 pub returns-in-Refused : goal.returns-in-Refused
 returns-in-Refused c =
