@@ -1,0 +1,9 @@
+-- `fv::answer::written_outcome` meets its contract, case by case.
+use borrow.Author.Rules.{rules}
+use Rattle.fv.proofs.answer.written_outcome.Goals as goal
+
+pub returns-in-Success : goal.returns-in-Success
+returns-in-Success c = rw c.in-Success.is c.counted.ensures
+
+pub returns-in-Refused : goal.returns-in-Refused
+returns-in-Refused c = rw c.in-Refused.is c.refusal.ensures

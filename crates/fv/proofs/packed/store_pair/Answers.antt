@@ -1,0 +1,6 @@
+-- `fv::packed::store_pair` meets its contract: two stores in a row.
+use borrow.Author.Rules.{rules}
+use Rattle.fv.proofs.packed.store_pair.Goals as goal
+
+pub returns : goal.returns
+returns c = rw (c.store-2.ensures, c.store.ensures)
