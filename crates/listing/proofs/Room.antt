@@ -11,7 +11,6 @@ use Rattle.common.specs.Answers.{refused, success}
 use Rattle.common.specs.Refusals.{first_refusal}
 use Rattle.listing.specs.Listing.{listing, ListedRoom, listed_room, listed_answer, list_volume}
 use Rattle.listing.specs.declared.Listed.{Listed}
-use Rattle.listing.specs.declared.Listed.TheVariants as Listed
 
 -- too short: 5, and the room stays
 pub list_refused : (s room : List ℕ) → length room < length (listing s) → list_volume s room ≡ listed_room (refused 5) room

@@ -8,7 +8,6 @@ use Rattle.volume.specs.State.{map_of}
 use Rattle.volume.specs.declared.state.State.{State}
 use Rattle.listing.specs.Decimal.{decimal, max_digits}
 use Rattle.listing.specs.declared.Listed.{Listed}
-use Rattle.listing.specs.declared.Listed.TheVariants as Listed
 
 -- the words of the lines, in ASCII: "volume", "map", "refused"
 abbrev pub volume_word : List ℕ

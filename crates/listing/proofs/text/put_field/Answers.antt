@@ -1,6 +1,5 @@
 -- `listing::text::put_field` meets its contract: a tab, then the digits.
 use native.Mathlib.Omega.{arith}
-use borrow.Author.Rules.{rules}
 use Rattle.listing.proofs.text.Field.{length-field, field_put}
 use Rattle.listing.proofs.text.put_field.Goals as goal
 
