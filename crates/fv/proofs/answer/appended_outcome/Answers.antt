@@ -1,5 +1,4 @@
 -- `fv::answer::appended_outcome` meets its contract, case by case.
-use borrow.Author.Rules.{rules}
 use Rattle.fv.proofs.answer.appended_outcome.Goals as goal
 
 pub returns-in-Used : goal.returns-in-Used

@@ -1,7 +1,6 @@
 -- `fv::answer::counted` meets its contract: the count and 0 are stored.
 use Rattle.common.specs.Answers.{number_of, values_of}
 use Rattle.fv.specs.Answer.{answer_stored}
-use borrow.Author.Rules.{rules}
 use Rattle.fv.proofs.answer.counted.Goals as goal
 
 pub returns : goal.returns

@@ -1,7 +1,6 @@
 -- `fv::answer::entry_outcome` meets its contract, case by case.
 use Rattle.volume.specs.ExtendedEntry.{entry_answer}
 use Rattle.fv.specs.Answer.{entry_words}
-use borrow.Author.Rules.{rules}
 use Rattle.fv.proofs.answer.entry_outcome.Goals as goal
 
 pub returns-in-Success : goal.returns-in-Success

@@ -1,5 +1,4 @@
 -- `fv::answer::evaluated_outcome` meets its contract, case by case.
-use borrow.Author.Rules.{rules}
 use Rattle.fv.proofs.answer.evaluated_outcome.Goals as goal
 
 pub returns-then-says : goal.returns-then-says

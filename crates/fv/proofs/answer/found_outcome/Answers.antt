@@ -1,5 +1,4 @@
 -- `fv::answer::found_outcome` meets its contract, case by case.
-use borrow.Author.Rules.{rules}
 use Rattle.fv.proofs.answer.found_outcome.Goals as goal
 
 pub returns-in-Part : goal.returns-in-Part

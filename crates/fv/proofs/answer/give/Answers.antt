@@ -1,6 +1,5 @@
 -- `fv::answer::give` meets its contract.
 use mathlib.Core.Path.{refl}
-use borrow.Author.Rules.{rules}
 use Rattle.fv.proofs.answer.give.Goals as goal
 
 pub returns-then-outcome : goal.returns-then-outcome

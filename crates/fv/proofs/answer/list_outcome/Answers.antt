@@ -1,6 +1,5 @@
 -- `fv::answer::list_outcome` meets its contract.
-use mathlib.Core.Path.{◌≡◌, refl}
-use borrow.Author.Rules.{rules}
+use mathlib.Core.Path.{refl}
 use Rattle.common.specs.Answers.{number_of}
 use Rattle.block_service.specs.Service.{moved_answer}
 use Rattle.fv.specs.Answer.{last_count}

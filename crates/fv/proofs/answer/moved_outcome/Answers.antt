@@ -1,6 +1,5 @@
 -- `fv::answer::moved_outcome` meets its contract, case by case.
 use Rattle.block_service.specs.Service.{moved_answer}
-use borrow.Author.Rules.{rules}
 use Rattle.fv.proofs.answer.moved_outcome.Goals as goal
 
 pub returns-in-Success : goal.returns-in-Success

@@ -1,5 +1,4 @@
 -- `fv::answer::opcode_outcome` meets its contract, case by case.
-use borrow.Author.Rules.{rules}
 use Rattle.fv.proofs.answer.opcode_outcome.Goals as goal
 
 pub returns-in-Opcode : goal.returns-in-Opcode

@@ -1,5 +1,4 @@
 -- `fv::answer::written_outcome` meets its contract, case by case.
-use borrow.Author.Rules.{rules}
 use Rattle.fv.proofs.answer.written_outcome.Goals as goal
 
 pub returns-in-Success : goal.returns-in-Success

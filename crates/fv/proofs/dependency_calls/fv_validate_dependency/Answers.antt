@@ -1,6 +1,5 @@
 -- `fv::dependency_calls::fv_validate_dependency` meets its contract, by the test's answer.
 use Rattle.fv.proofs.dependency_calls.Calls.{validate_done, validate_refused}
-use borrow.Author.Rules.{rules}
 use Rattle.fv.proofs.dependency_calls.fv_validate_dependency.Goals as goal
 
 pub returns-in-Valid : goal.returns-in-Valid

@@ -1,11 +1,9 @@
 -- `fv::dependency_calls::guids_in` meets its contract: the rows stored so far and those left make the sixteen.
 use Prim.Native.Nat.{◌-◌, ◌*◌, ◌≤◌}
-use mathlib.Core.Path.{◌≡◌, refl, ◌∙◌}
+use mathlib.Core.Path.{◌≡◌}
 use mathlib.Core.List.{◌++◌}
-use lib.ListN.{length, take, drop, length-set}
+use lib.ListN.{length, take, drop}
 use Rattle.fv.specs.DependencyCalls.{guids_in}
-use Rattle.fv.proofs.dependency_calls.Tables.{rows_next, rows_done, row_there, row_tail}
-use borrow.Author.Rules.{rules}
 use Rattle.fv.proofs.dependency_calls.guids_in.Given as goal
 
 abbrev pub invariant-loop-i : goal.invariant-loop-i

@@ -1,9 +1,8 @@
 -- `fv::dependency_calls::words_in` meets its contract: the words stored so far and those left make the sixteen.
-use Prim.Native.Nat.{◌+◌, ◌-◌, ◌*◌, ◌≤◌}
+use Prim.Native.Nat.{◌+◌, ◌*◌}
 use mathlib.Core.Path.{◌≡◌, refl, sym, ap, ◌∙◌}
-use mathlib.Core.List.{◌++◌}
 use native.Mathlib.Omega.{arith}
-use lib.ListN.{length-set, length, take, drop}
+use lib.ListN.{length-set}
 use Rattle.common.proofs.Lists.{fill_next, fill_done}
 use Rattle.numbers.specs.LittleEndian.{le}
 use Rattle.volume.specs.Header.{words_at}

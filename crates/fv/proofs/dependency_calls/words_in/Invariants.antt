@@ -1,14 +1,9 @@
 -- `fv::dependency_calls::words_in` meets its contract: the words stored so far and those left make the sixteen.
-use Prim.Native.Nat.{◌+◌, ◌-◌, ◌*◌, ◌≤◌}
-use mathlib.Core.Path.{◌≡◌, refl, sym, ap, ◌∙◌}
+use Prim.Native.Nat.{◌-◌, ◌≤◌}
+use mathlib.Core.Path.{◌≡◌}
 use mathlib.Core.List.{◌++◌}
-use native.Mathlib.Omega.{arith}
-use lib.ListN.{length-set, length, take, drop}
-use Rattle.common.proofs.Lists.{fill_next, fill_done}
-use Rattle.numbers.specs.LittleEndian.{le}
+use lib.ListN.{length, take, drop}
 use Rattle.volume.specs.Header.{words_at}
-use Rattle.volume.proofs.header.Fields.{length-words_at, words_at_at}
-use borrow.Author.Rules.{rules}
 use Rattle.fv.proofs.dependency_calls.words_in.Given as goal
 
 abbrev pub invariant-loop-i : goal.invariant-loop-i

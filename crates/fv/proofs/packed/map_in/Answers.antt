@@ -1,9 +1,7 @@
 -- `fv::packed::map_in` meets its contract: the words stored so far and those left make the map.
-use Prim.Native.Nat.{◌+◌, ◌-◌, ◌≤◌}
-use mathlib.Core.Path.{◌≡◌, refl, sym, ◌∙◌}
-use mathlib.Core.List.{◌++◌}
+use mathlib.Core.Path.{refl, sym, ◌∙◌}
 use native.Mathlib.Omega.{arith}
-use lib.ListN.{length-set, length, take, drop}
+use lib.ListN.{length-set}
 use Rattle.common.proofs.Lists.{fill_next, fill_done}
 use Rattle.volume.specs.Header.{words_at}
 use Rattle.volume.proofs.header.Fields.{length-words_at, words_at_at}

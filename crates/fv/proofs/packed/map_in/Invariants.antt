@@ -1,13 +1,9 @@
 -- `fv::packed::map_in` meets its contract: the words stored so far and those left make the map.
-use Prim.Native.Nat.{◌+◌, ◌-◌, ◌≤◌}
-use mathlib.Core.Path.{◌≡◌, refl, sym, ◌∙◌}
+use Prim.Native.Nat.{◌-◌, ◌≤◌}
+use mathlib.Core.Path.{◌≡◌}
 use mathlib.Core.List.{◌++◌}
-use native.Mathlib.Omega.{arith}
-use lib.ListN.{length-set, length, take, drop}
-use Rattle.common.proofs.Lists.{fill_next, fill_done}
+use lib.ListN.{length, take, drop}
 use Rattle.volume.specs.Header.{words_at}
-use Rattle.volume.proofs.header.Fields.{length-words_at, words_at_at}
-use borrow.Author.Rules.{rules}
 use Rattle.fv.proofs.packed.map_in.Given as goal
 
 abbrev pub invariant-loop-i : goal.invariant-loop-i

@@ -1,14 +1,11 @@
 -- `fv::packed::pack` meets its contract: the stores make the packed state, which is copied to the room.
-use mathlib.Core.Path.{◌≡◌, refl, sym}
-use lib.ListN.{length, replicate}
+use mathlib.Core.Path.{◌≡◌, refl, sym, ◌∙◌}
+use lib.ListN.{length, replicate, take}
+use lib.Seq.{length-take-le}
 use Rattle.fv.proofs.packed.Packing.{pack_stored, pack_done}
 use borrow.Author.Rules.{rules}
 use Rattle.fv.proofs.packed.pack.Goals as goal
 use Rattle.fv.proofs.packed.pack.Goals.{After-store_map, Start}
-
--- the places after each store, one from the next, back to the entry
-abbrev mapped : tie.After-copy → After-store_map
-mapped c = c.before.before.before.before
 
 -- the arrays of a state
 guid_length : (c : Start) → length c.args.st.guid ≡ 16
@@ -25,19 +22,20 @@ store_map-requires c = map-length (goal.at.store_map-requires c).Start
 
 -- LOST slice-aggregate-copy
 -- slice-aggregate-copy c = search rules
--- 
+--
 
 -- LOST copy-requires
 -- copy-requires c κs = search rules
--- 
+--
 
 pub returns : goal.returns
 returns c =
-    let m = mapped (goal.at.returns c).After-copy_from_slice in
-    let k = counted m in
-    let d = described k in
-    let l = measured d in
-    let a = (entry k).args in
-    let g = guid_length (entry k) in
-    let stored = pack_stored a.st (replicate 304 0) g _ _ _ _ _ (named l).store_Bytes.ensures l.store-longs.ensures d.store_pair.ensures k.store-pair2.ensures m.store-map.ensures in
-    pack_done a.st (replicate 304 0) _ a.room.now _ refl g (map-length (entry k)) stored c.copy.ensures.1
+    let st = c.args.st in
+    let g = guid_length (goal.at.returns c).Start in
+    let stored = pack_stored st (replicate 304 0) g _ _ _ _ _ c.store_bytes.ensures c.store_longs.ensures c.store_pair.ensures c.store_pair-2.ensures c.store_map.ensures in
+    pack_done st (replicate 304 0) _ c.args.room.now _ refl g (map-length (goal.at.returns c).Start) stored c.copy_from_slice.ensures.after
+
+pub copy_from_slice-requires : goal.copy_from_slice-requires
+copy_from_slice-requires c =
+    let front : length (take 304 c.args.room.now) ≡ 304 = length-take-le 304 c.args.room.now c.requires in
+    front ∙ sym (c.store_map.auto.s ∙ c.store_pair-2.auto.s ∙ c.store_pair.auto.s ∙ c.store_longs.auto.s ∙ c.store_bytes.auto.s)

@@ -2,7 +2,6 @@
 use mathlib.Core.Path.{◌∙◌}
 use Rattle.volume.specs.State.{state_with}
 use Rattle.fv.specs.Packed.{unpacked}
-use borrow.Author.Rules.{rules}
 use Rattle.fv.proofs.packed.state_in.Goals as goal
 
 pub returns : goal.returns
@@ -12,8 +11,8 @@ returns c =
       guid = c.guid_in.ensures i;
       length = c.u64_at.ensures i;
       base = c.u64_at-2.ensures i;
-      (goal.at.returns c).After-u32_at = c.u32_at.ensures i;
-      (goal.at.returns c).After-u32_at-2 = c.u32_at-2.ensures i;
+      attributes = c.u32_at.ensures i;
+      edition = c.u32_at-2.ensures i;
       protected = (c.wide.ensures.0 ∙ c.u32_at-3.ensures) i;
       entries = c.u32_at-4.ensures i;
       map = c.map_in.ensures i;

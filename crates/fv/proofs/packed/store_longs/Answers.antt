@@ -1,6 +1,4 @@
 -- `fv::packed::store_longs` meets its contract: two stores in a row.
-use Prim.Native.Nat.{◌-◌}
-use borrow.Author.Rules.{rules}
 use Rattle.fv.proofs.packed.store_longs.Goals as goal
 
 pub returns : goal.returns

@@ -1,13 +1,10 @@
 -- `fv::packed::store_map` meets its contract: what is left of the map's bytes to store makes the same as the whole.
-use Prim.Native.Nat.{ℕ, ◌+◌, ◌-◌, ◌*◌, ◌≤◌}
-use mathlib.Core.Path.{◌≡◌, refl, sym, ap, ◌∙◌}
-use mathlib.Core.List.{List, [], ◌++◌, append-nil}
-use native.Mathlib.Omega.{arith}
+use Prim.Native.Nat.{◌+◌, ◌-◌, ◌*◌, ◌≤◌}
+use mathlib.Core.Path.{◌≡◌}
+use mathlib.Core.List.{[], ◌++◌}
 use lib.ListN.{length, drop}
 use lib.Seq.{sets}
 use Rattle.volume.specs.HeaderWriter.{words_bytes}
-use Rattle.volume.proofs.header_writer.Stores.{words_next, words_end}
-use borrow.Author.Rules.{rules}
 use Rattle.fv.proofs.packed.store_map.Given as goal
 
 abbrev pub invariant-loop-i : goal.invariant-loop-i

@@ -1,5 +1,4 @@
 -- `fv::packed::store_pair` meets its contract: two stores in a row.
-use borrow.Author.Rules.{rules}
 use Rattle.fv.proofs.packed.store_pair.Goals as goal
 
 pub returns : goal.returns
