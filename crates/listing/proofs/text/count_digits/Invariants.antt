@@ -1,13 +1,7 @@
 -- `listing::text::count_digits` meets its contract: the digits counted and those of what is left make the number's.
 use Prim.Native.Nat.{◌+◌, ◌≤◌}
 use mathlib.Core.Path.{◌≡◌}
-<<<<<<< HEAD
-use native.Mathlib.Omega.{arith}
 use Rattle.listing.specs.Decimal.{places}
-use Rattle.listing.proofs.text.Decimal.{places_more, smaller, places_bound, counted_next, counted_end}
-=======
-use Rattle.listing.specs.Decimal.{places}
->>>>>>> 0d3b2e62c3a80f4fee77e25d4ebd92625a9980e2
 use Rattle.listing.proofs.text.count_digits.Given as goal
 
 abbrev pub invariant-loop-rest : goal.invariant-loop-rest

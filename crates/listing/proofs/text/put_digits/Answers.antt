@@ -1,16 +1,7 @@
 -- `listing::text::put_digits` meets its contract: the last digits are stored, and those of what is left come before them.
-<<<<<<< HEAD
-use Prim.Native.Nat.{◌≤◌}
-use mathlib.Core.Path.{◌≡◌}
-use native.Mathlib.Omega.{arith}
-use borrow.Author.Rules.{rules}
-use lib.ListN.{length}
-use Rattle.listing.proofs.text.Decimal.{Spelled, spelled_start, spelled_next, spelled_end}
-=======
 use native.Mathlib.Omega.{arith}
 use borrow.Author.Rules.{rules}
 use Rattle.listing.proofs.text.Decimal.{spelled_start, spelled_next, spelled_end}
->>>>>>> 0d3b2e62c3a80f4fee77e25d4ebd92625a9980e2
 use Rattle.listing.proofs.text.put_digits.Goals as goal
 
 pub loop-i-init : goal.loop-i-init

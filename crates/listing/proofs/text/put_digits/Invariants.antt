@@ -1,15 +1,8 @@
 -- `listing::text::put_digits` meets its contract: the last digits are stored, and those of what is left come before them.
 use Prim.Native.Nat.{◌≤◌}
 use mathlib.Core.Path.{◌≡◌}
-<<<<<<< HEAD
-use native.Mathlib.Omega.{arith}
-use borrow.Author.Rules.{rules}
-use lib.ListN.{length}
-use Rattle.listing.proofs.text.Decimal.{Spelled, spelled_start, spelled_next, spelled_end}
-=======
 use lib.ListN.{length}
 use Rattle.listing.proofs.text.Decimal.{Spelled}
->>>>>>> 0d3b2e62c3a80f4fee77e25d4ebd92625a9980e2
 use Rattle.listing.proofs.text.put_digits.Given as goal
 
 abbrev pub invariant-loop-i : goal.invariant-loop-i
