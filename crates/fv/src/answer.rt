@@ -10,7 +10,6 @@ ghost use Rattle.sections.specs.Search.{found_answer};
 ghost use Rattle.fv.specs.Answer.{answer_bytes, entry_words, Gives, GivesList, list_outcome, outcome_stored, two_stored};
 
 use block_service::Moved;
-use bytes::copy;
 use dependency::{Evaluated, Read, Written};
 use sections::append::Appended;
 use sections::search::Found;
@@ -195,5 +194,5 @@ fn store_two(first: u64, second: u64, answer: &mut [u8])
     let mut s = [0u8; 16];
     numbers::store(&mut s, 0, 8, first);
     numbers::store(&mut s, 8, 8, second);
-    copy(&s, answer);
+    answer[..ANSWER_BYTES].copy_from_slice(&s);
 }

@@ -7,7 +7,6 @@ ghost use Rattle.fv.specs.DependencyCalls.{evaluate_call, guids_bytes, guids_in,
 
 use crate::answer::{ANSWER_BYTES, evaluated_outcome, give, opcode_outcome, written_outcome};
 use crate::packed::guid_in;
-use bytes::copy;
 use dependency::{Validated, evaluate, read_opcode, validate, write_opcode};
 
 // The bytes of a table of installed firmware: 16 GUIDs, and 16 versions of 32 bits.
@@ -109,7 +108,7 @@ fn versions_in(s: &[u8]) -> [u32; 16]
     ensures { result ≡ words_at 16 s.now 0 }
 {
     let mut own = [0u8; 64];
-    copy(&s[..VERSIONS_BYTES], &mut own);
+    own.copy_from_slice(&s[..VERSIONS_BYTES]);
     words_in(&own)
 }
 

@@ -6,7 +6,6 @@ ghost use Rattle.volume.specs.Header.{words_at};
 ghost use Rattle.volume.specs.HeaderWriter.{words_bytes};
 ghost use Rattle.fv.specs.Packed.{packed, state_bytes, packed_map_start, unpacked};
 
-use bytes::copy;
 use volume::State;
 
 // The bytes of a packed state.
@@ -33,7 +32,7 @@ pub(crate) fn unpack(state: &[u8]) -> State
     ensures { result ≡ unpacked state.now }
 {
     let mut s = [0u8; 304];
-    copy(&state[..STATE_BYTES], &mut s);
+    s.copy_from_slice(&state[..STATE_BYTES]);
     state_in(&s)
 }
 
@@ -60,7 +59,7 @@ pub(crate) fn guid_in(s: &[u8]) -> [u8; 16]
     ensures { result ≡ take 16 s.now }
 {
     let mut guid = [0u8; 16];
-    copy(&s[..16], &mut guid);
+    guid.copy_from_slice(&s[..16]);
     guid
 }
 
@@ -90,7 +89,7 @@ pub(crate) fn pack(st: State, room: &mut [u8])
     store_pair(PROTECTED, st.protected, st.entries as u64, &mut s);
     let map = st.map;
     store_map(&map, &mut s);
-    copy(&s, room);
+    room[..STATE_BYTES].copy_from_slice(&s);
 }
 
 // Stores the two fields of 64 bits.

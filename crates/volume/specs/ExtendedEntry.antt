@@ -7,7 +7,6 @@ use Rattle.common.specs.Refusals.{unless_refused}
 use Rattle.volume.specs.ExtendedHeader.{Entry, ext_offset, ext_entries}
 use Rattle.volume.specs.Header.{revision_at, open_volume}
 use Rattle.volume.specs.declared.extended_entry.ExtEntry.{ExtEntry}
-use Rattle.volume.specs.declared.extended_entry.ExtEntry.TheVariants as ExtEntry
 
 -- the entries that are good; where one is at fault opening refuses the volume, and none is listed
 unfoldable pub entries_listed : Option (List Entry) → List Entry

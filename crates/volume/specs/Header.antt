@@ -12,7 +12,6 @@ use Rattle.volume.specs.ExtendedHeader.{ext_offset, ext_fault}
 use Rattle.volume.specs.State.{state_of, zero_state, map_of}
 use Rattle.volume.specs.declared.state.State.{State}
 use Rattle.volume.specs.declared.header.Opening.{Opening}
-use Rattle.volume.specs.declared.header.Opening.TheVariants as Opening
 
 -- ---- fields
 

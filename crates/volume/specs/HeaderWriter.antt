@@ -9,7 +9,6 @@ use Rattle.volume.specs.Attributes.{attributes_fault}
 use Rattle.volume.specs.BlockMap.{header_length, has_zero, size_fault}
 use Rattle.volume.specs.Header.{signature, word_modulus, word_sum}
 use Rattle.volume.specs.declared.header_writer.Written.{Written}
-use Rattle.volume.specs.declared.header_writer.Written.TheVariants as Written
 
 -- the number of entries of a list of map words
 abbrev pub pairs : List ℕ → ℕ

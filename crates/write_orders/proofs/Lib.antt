@@ -1,7 +1,5 @@
 pub mod ByteOrders
-mod Firsts
 pub mod Lists
-mod Relent
 pub mod Requests
 pub mod Stages
 pub mod Theorems

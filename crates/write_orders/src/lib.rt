@@ -3,9 +3,6 @@
 //
 // Every public function answers every input and has no `requires`. What was stored before a refusal stays. The state is tested once for
 // the list: a write changes neither it nor the volume's length, on which 111, 5 and 15 hang.
-//
-// `write_orders` is lent a slice of structs, which the prover's borrow checker does not cover: it only copies an order out and
-// calls `next`, and is proved by a walk of its MIR. So is any function that lends such a slice.
 #![tactic(auto)]
 
 ghost use Rattle.std.specs.Prelude.{◌&&◌, [], ◌≡◌, ◌≤◌, ◌<◌, ◌+◌, ◌/◌, ltb, length, take};
@@ -68,7 +65,7 @@ pub fn write_orders(st: State, volume: &mut [u8], orders: &[Order], source: &[u8
     at.written
 }
 
-// The same with the first `used` orders of an array, for programs in Rattle: a caller lends no slice of structs, and so needs no walk. Refused with 2 where
+// The same with the first `used` orders of an array, for programs in Rattle. Refused with 2 where
 // `used` is more than 64. The array is copied once.
 pub fn write_order_array(
     st: State,
@@ -104,7 +101,7 @@ pub fn write_order_bytes(st: State, volume: &mut [u8], orders: &[u8], source: &[
     at.written
 }
 
-// The first orders of an array, as many as it has or fewer. It lends a slice of structs, and is proved by a walk of its MIR too.
+// The first orders of an array, as many as it has or fewer.
 fn write_first(
     st: State,
     volume: &mut [u8],

@@ -13,18 +13,17 @@ use lib.ListN.{length, get_or, drop}
 use Rattle.common.specs.Answers.{Answer, refused}
 use Rattle.common.specs.Lists.{edit}
 use Rattle.common.specs.Refusals.{Row, row, first_refusal, unless_refused}
-use Rattle.common.proofs.Refusals.{row_passes, row-passed}
+use Rattle.common.proofs.Refusals.{row_passes}
 use Rattle.volume.specs.Attributes.{write_status}
 use Rattle.volume.specs.BlockMap.{blocks, bytes}
 use Rattle.volume.specs.State.{map_of}
 use Rattle.volume.specs.declared.state.State.{State}
 use Rattle.block_service.specs.Access.{count_moved, changed_byte, write_change}
 use Rattle.block_service.specs.Blocks.{place_from, place, start_of, length_of}
-use Rattle.block_service.specs.Judged.{outgrows, judged_refusals, Stored, stored, judged_write, judged_reach}
-use Rattle.block_service.specs.Service.{write, lent_refusals, refusals, move_answer, result_of, perform, effect, buffer_of, step}
+use Rattle.block_service.specs.Judged.{outgrows, judged_refusals, stored, judged_write, judged_reach}
+use Rattle.block_service.specs.Service.{write, lent_refusals, refusals, move_answer, perform, effect, buffer_of, step}
 use Rattle.block_service.specs.declared.service.Reach.{Reach}
 use Rattle.block_service.specs.declared.service.Reach.TheVariants.{At, Refused}
-use Rattle.block_service.proofs.blocks.Places.{found_end, place_there}
 use Rattle.block_service.proofs.blocks.Runs.{no_entry, entry_words_lem}
 use Rattle.block_service.proofs.service.Steps.{begun, lent_then, move_answers, refused-step, allowed_step}
 

@@ -23,7 +23,6 @@ use Rattle.block_service.specs.Carry.{filled, refused_with, Progressed}
 use Rattle.block_service.specs.Order.{member, part, erase_order, job_given, carry_change, finishes}
 use Rattle.block_service.specs.Service.{carry_erase, lent_refusals, refusals, effect, Result, result_of, perform, buffer_of, step, progress_answer, carry_answer}
 use Rattle.block_service.specs.declared.service.Progress.{Progress}
-use Rattle.block_service.specs.declared.service.Progress.TheVariants as Progress
 use Rattle.block_service.proofs.blocks.Places.{in_some_block, before_first_byte, first_byte_end}
 use Rattle.block_service.proofs.carry.OrderLists.{part-member, part_none}
 use Rattle.block_service.proofs.carry.Fills.{filled_none}

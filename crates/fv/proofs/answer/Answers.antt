@@ -5,7 +5,7 @@ use mathlib.Core.List.{List, [], ◌∷◌, ◌++◌}
 use mathlib.Core.Option.{Option, none, some}
 use borrow.Author.Tests.{lt-ltb, le-ltb}
 use lib.Dec.{ltb}
-use lib.ListN.{length, take, drop, replicate}
+use lib.ListN.{length, drop, replicate}
 use lib.Seq.{sets}
 use Rattle.common.specs.Answers.{Answer, number_of, values_of}
 use Rattle.common.specs.Refusals.{Row, row, first_refusal}
@@ -16,10 +16,10 @@ use Rattle.fv.specs.Called.{called, answer_call}
 use Rattle.fv.specs.declared.answer.Outcome.{Outcome}
 
 -- two numbers in 16 bytes, copied to the front of the room
-pub two_stored_lem : (x y : ℕ) (r1 r2 room after : List ℕ) → r1 ≡ sets (replicate 16 0) 0 (le_bytes 8 x) → r2 ≡ sets r1 8 (le_bytes 8 y)
-    → after ≡ take (length r2) r2 ++ drop (length r2) room → after ≡ two_stored x y room
+pub two_stored_lem : (x y : ℕ) (r1 r2 room front : List ℕ) → r1 ≡ sets (replicate 16 0) 0 (le_bytes 8 x) → r2 ≡ sets r1 8 (le_bytes 8 y)
+    → front ≡ r2 → front ++ drop answer_bytes room ≡ two_stored x y room
 unfolding le_bytes
-two_stored_lem x y r1 r2 room after e1 e2 f = rw (e2, e1) at f
+two_stored_lem x y r1 r2 room front e1 e2 f = rw (f, e2, e1)
 
 -- what an outcome gives is what its answer says
 pub given : (o : Outcome) (a : Answer) (number : ℕ) (room after : List ℕ) → Gives o a → (number ≡ o.number) × (after ≡ outcome_stored o room)

@@ -4,7 +4,7 @@ use mathlib.Core.Path.{◌≡◌, refl, sym, ap, ap₂, ◌∙◌}
 use mathlib.Core.List.{List, ◌∷◌, ◌++◌, append-nil}
 use native.Mathlib.Omega.{arith}
 use lib.ListN.{length, take, drop, length-append, drop_of_length-le}
-use lib.Seq.{sets, get_or-take, take_all, take_at, take-take}
+use lib.Seq.{sets, get_or-take, take_at, take-take}
 use Rattle.common.proofs.Lists.{sets-append, sets_front}
 use Rattle.numbers.specs.LittleEndian.{le, le_bytes}
 use Rattle.numbers.proofs.LittleEndian.{length-le_bytes, le_same}
@@ -38,14 +38,13 @@ pack_stored st r g r1 r2 r3 r4 r5 e1 e2 e3 e4 e5 =
     rw (e5, e4, e3, e2, e1) (sym (sets-append st.guid rest r 0 ∙ ap (λ (k : ℕ). sets (sets r 0 st.guid) (0 + k) rest) g))
 
 -- on 304 bytes they leave the packed state, which is copied to the front of the room
-pub pack_done : (st : State) (r s room after : List ℕ) → length r ≡ state_bytes → length st.guid ≡ 16 → length st.map ≡ map_words
-    → s ≡ sets r 0 (packed st) → after ≡ take (length s) s ++ drop (length s) room → after ≡ packed st ++ drop state_bytes room
-pack_done st r s room after l g m e f =
+pub pack_done : (st : State) (r s room front : List ℕ) → length r ≡ state_bytes → length st.guid ≡ 16 → length st.map ≡ map_words
+    → s ≡ sets r 0 (packed st) → front ≡ s → front ++ drop state_bytes room ≡ packed st ++ drop state_bytes room
+pack_done st r s room front l g m e f =
     let long = length-packed st g m in
     let whole : s ≡ packed st =
     e ∙ sets_front (packed st) r (omega arith) ∙ ap (λ (x : List ℕ). packed st ++ x) (drop_of_length-le r {i = length (packed st)} (omega arith)) ∙ append-nil (packed st) in
-    let all = take_all state_bytes (packed st) (omega arith) in
-    rw (whole, long, all) at f
+    rw (f, whole)
 
 -- ---- unpacking
 

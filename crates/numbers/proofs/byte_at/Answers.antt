@@ -1,6 +1,5 @@
 -- `numbers::byte_at` meets its contract: past the end both are 0.
 use mathlib.Core.Path.{sym}
-use borrow.Author.Rules.{rules}
 use lib.ListN.{get_or-eq_default}
 use Rattle.numbers.proofs.byte_at.Goals as goal
 

@@ -1,11 +1,6 @@
 -- `numbers::number_at` meets its contract: the loop goes down from the highest byte, and holds the number of the bytes passed.
 use Prim.Native.Nat.{◌+◌, ◌-◌, ◌^◌, ◌≤◌, ◌<◌}
-use mathlib.Core.Path.{sym, ◌∙◌, ◌≡◌}
-use native.Mathlib.Nat.{sub-zero}
-use native.Mathlib.Omega.{arith}
-use borrow.Author.Rules.{rules}
-use lib.Dec.{lit<}
-use Rattle.numbers.proofs.LittleEndian.{le_none, le_whole, bound_none, le_past, le_more, bound_more, bound_fits}
+use mathlib.Core.Path.{◌≡◌}
 use Rattle.numbers.specs.LittleEndian.{le}
 use Rattle.numbers.proofs.number_at.Given as goal
 

@@ -1,10 +1,8 @@
 -- `numbers::store` meets its contract: what is left to store makes the same list as the whole.
-use Prim.Native.Nat.{◌+◌, ◌-◌, ◌≤◌, ◌<◌}
-use mathlib.Core.Path.{◌≡◌, sym, ◌∙◌}
+use mathlib.Core.Path.{sym, ◌∙◌}
 use native.Mathlib.Omega.{arith}
 use borrow.Author.Rules.{rules}
-use lib.ListN.{length-set, length}
-use lib.Seq.{sets}
+use lib.ListN.{length-set}
 use Rattle.common.proofs.Lists.{sets_past}
 use Rattle.numbers.proofs.LittleEndian.{store_whole, store_past, store_none, store_more}
 use Rattle.numbers.specs.LittleEndian.{le_bytes}

@@ -1,12 +1,8 @@
 -- `numbers::store` meets its contract: what is left to store makes the same list as the whole.
 use Prim.Native.Nat.{◌+◌, ◌-◌, ◌≤◌, ◌<◌}
-use mathlib.Core.Path.{◌≡◌, sym, ◌∙◌}
-use native.Mathlib.Omega.{arith}
-use borrow.Author.Rules.{rules}
-use lib.ListN.{length-set, length}
+use mathlib.Core.Path.{◌≡◌}
+use lib.ListN.{length}
 use lib.Seq.{sets}
-use Rattle.common.proofs.Lists.{sets_past}
-use Rattle.numbers.proofs.LittleEndian.{store_whole, store_past, store_none, store_more}
 use Rattle.numbers.specs.LittleEndian.{le_bytes}
 use Rattle.numbers.proofs.store.Given as goal
 

@@ -1,11 +1,10 @@
 -- `numbers::store_bytes` meets its contract: what is left to store makes the same list as the whole.
-use Prim.Native.Nat.{◌+◌, ◌-◌, ◌≤◌, ◌<◌}
-use mathlib.Core.Path.{◌≡◌, refl, sym, ◌∙◌}
+use Prim.Native.Nat.{◌+◌}
+use mathlib.Core.Path.{refl, sym, ◌∙◌}
 use native.Mathlib.Nat.{add-zero}
 use native.Mathlib.Omega.{arith}
 use borrow.Author.Rules.{rules}
-use lib.ListN.{length-set, length, drop}
-use lib.Seq.{sets}
+use lib.ListN.{length-set, drop}
 use Rattle.common.proofs.Lists.{sets_past, sets_none}
 use Rattle.numbers.proofs.LittleEndian.{bytes_more}
 use Rattle.numbers.proofs.store_bytes.Goals as goal

@@ -1,13 +1,8 @@
 -- `numbers::store_bytes` meets its contract: what is left to store makes the same list as the whole.
 use Prim.Native.Nat.{◌+◌, ◌-◌, ◌≤◌, ◌<◌}
-use mathlib.Core.Path.{◌≡◌, refl, sym, ◌∙◌}
-use native.Mathlib.Nat.{add-zero}
-use native.Mathlib.Omega.{arith}
-use borrow.Author.Rules.{rules}
-use lib.ListN.{length-set, length, drop}
+use mathlib.Core.Path.{◌≡◌}
+use lib.ListN.{length, drop}
 use lib.Seq.{sets}
-use Rattle.common.proofs.Lists.{sets_past, sets_none}
-use Rattle.numbers.proofs.LittleEndian.{bytes_more}
 use Rattle.numbers.proofs.store_bytes.Given as goal
 
 abbrev pub invariant-loop-i : goal.invariant-loop-i

@@ -1,6 +1,5 @@
 -- `numbers::u32_of` meets its contract: its sum is the number of the four bytes.
 use native.Mathlib.Omega.{arith}
-use borrow.Author.Rules.{rules}
 use Rattle.numbers.specs.LittleEndian.{le}
 use Rattle.numbers.proofs.u32_of.Goals as goal
 

@@ -1,7 +1,6 @@
 -- `numbers::word_at` meets its contract: the number of its four bytes, of which the lowest three are a number and the fourth a byte.
 use mathlib.Core.Path.{refl, ◌∙◌}
 use native.Mathlib.Omega.{arith}
-use borrow.Author.Rules.{rules}
 use Rattle.numbers.proofs.LittleEndian.{le_four, word_parts}
 use Rattle.numbers.proofs.word_at.Goals as goal
 

@@ -1,10 +1,8 @@
 -- `settings::breaks_lock` meets its contract: the tests are the rule's.
 use mathlib.Core.Bool.{true, not}
 use mathlib.Core.Path.{◌≡◌, sym, ap, ◌∙◌}
-use borrow.Author.Tests.{not-true, not-false}
 use Rattle.volume.specs.Attributes.{flag}
 use Rattle.settings.proofs.Rules.{unlocked, lowered, was_raised, was_clear}
-use borrow.Author.Rules.{rules}
 use Rattle.settings.proofs.breaks_lock.Goals as goal
 use Rattle.settings.proofs.breaks_lock.Goals.{Else-not-is_set, Else-not-is_set-2}
 

@@ -1,6 +1,5 @@
 -- `settings::changes_any_locked` meets its contract.
 use mathlib.Core.Path.{◌≡◌, sym, ◌∙◌}
-use borrow.Author.Rules.{rules}
 use Rattle.volume.specs.Attributes.{flag, lock_status}
 use Rattle.settings.proofs.Rules.{differ_comm}
 use Rattle.settings.proofs.changes_any_locked.Goals as goal

@@ -1,7 +1,6 @@
 -- `settings::changes_fixed` meets its contract: the statuses are raised in both.
 use Rattle.settings.specs.Settings.{changes_fixed}
 use Rattle.settings.proofs.Rules.{differ_comm}
-use borrow.Author.Rules.{rules}
 use Rattle.settings.proofs.changes_fixed.Goals as goal
 
 pub returns : goal.returns

@@ -1,6 +1,5 @@
 -- `settings::changes_locked` meets its contract: the general lock, then each status's.
 use Rattle.settings.proofs.Rules.{any_locked, other_locked, read_locked, write_locked}
-use borrow.Author.Rules.{rules}
 use Rattle.settings.proofs.changes_locked.Goals as goal
 
 pub returns-then-changes_any_locked : goal.returns-then-changes_any_locked

@@ -1,7 +1,6 @@
 -- `settings::lacks` meets its contract.
 use mathlib.Core.Path.{sym}
 use mathlib.Core.Bool.{not, or-false}
-use borrow.Author.Rules.{rules}
 use Rattle.settings.proofs.lacks.Goals as goal
 
 pub returns-then-wanted-2 : goal.returns-then-wanted-2

@@ -1,7 +1,6 @@
 -- `settings::lacks_capability` meets its contract: the shared statuses, then the locks of edition 2.
 use mathlib.Core.Path.{◌≡◌, sym, ◌∙◌}
 use Rattle.settings.proofs.Rules.{read_lock_lacking, write_lock_lacking, other_lacks, shared_lacks, read_lock_lacks, write_lock_lacks}
-use borrow.Author.Rules.{rules}
 use Rattle.settings.proofs.lacks_capability.Goals as goal
 use Rattle.settings.proofs.lacks_capability.Goals.{After-lacks, After-lacks-2}
 

@@ -1,6 +1,5 @@
 -- `settings::lacks_shared` meets its contract.
 use mathlib.Core.Path.{◌≡◌}
-use borrow.Author.Rules.{rules}
 use Rattle.settings.proofs.Rules.{read_lacking, write_lacking, lock_lacking, read_lacks, write_lacks, lock_lacks}
 use Rattle.settings.proofs.lacks_shared.Goals as goal
 use Rattle.settings.proofs.lacks_shared.Goals.{After-lacks, After-lacks-2, After-lacks-3}

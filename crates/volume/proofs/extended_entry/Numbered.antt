@@ -10,7 +10,6 @@ use Rattle.volume.specs.ExtendedEntry.{ext_entries_of, entry_of, ext_entry, entr
 use Rattle.volume.specs.Header.{length_at, revision_at, header_length_at, state_at, open_refusals, Opens, opens, opening_answer, open_volume}
 use Rattle.volume.specs.State.{state_of, state_with}
 use Rattle.volume.specs.declared.header.Opening.{Opening}
-use Rattle.volume.specs.declared.header.Opening.TheVariants as Opening
 use Rattle.volume.specs.declared.state.State.{State}
 use Rattle.volume.proofs.extended_header.Entries.{Next, next, good_within, whole, entries_end, entries_next, extended}
 use Rattle.volume.proofs.header.Fields.{opened-passed, opening_refused, opening_success}

@@ -1,6 +1,5 @@
 -- `block_service::access::count_moved` meets its contract.
 use native.Mathlib.Omega.{arith}
-use borrow.Author.Rules.{rules}
 use Rattle.block_service.specs.Access.{count_moved}
 use Rattle.block_service.proofs.access.count_moved.Goals as goal
 

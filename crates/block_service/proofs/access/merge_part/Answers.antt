@@ -1,12 +1,9 @@
 -- `block_service::access::merge_part` meets its contract: the first i bytes are written, the others still to be.
-use Prim.Native.Nat.{◌-◌, ◌≤◌}
-use mathlib.Core.Path.{◌≡◌, sym, ◌∙◌}
+use mathlib.Core.Path.{sym, ◌∙◌}
 use native.Mathlib.Omega.{arith}
 use borrow.Author.Rules.{rules}
-use lib.ListN.{length, get_or, length-set}
-use Rattle.common.specs.Lists.{edit}
-use Rattle.common.proofs.Edit.{edited_to, edit_start, edit_next, edit_done}
-use Rattle.block_service.specs.Access.{written_byte}
+use lib.ListN.{length-set}
+use Rattle.common.proofs.Edit.{edit_start, edit_next, edit_done}
 use Rattle.block_service.proofs.access.merge_part.Goals as goal
 
 pub loop-i-init : goal.loop-i-init
@@ -16,13 +13,12 @@ pub loop-i-smaller : goal.loop-i-smaller
 loop-i-smaller c = simp length-set (omega arith)
 
 pub loop-i-preserved : goal.loop-i-preserved
-loop-i-preserved c =
-    (
-      simp length-set (search rules),
-      simp length-set (search rules),
-      search rules,
-      edit_next _ _ _ _ (search rules) c.written_byte.ensures ∙ c.loop-i.invariant.3,
-    )
+loop-i-preserved c = (
+  simp length-set (search rules),
+  simp length-set (search rules),
+  search rules,
+  edit_next _ _ _ _ (search rules) c.written_byte.ensures ∙ c.loop-i.invariant.3,
+)
 
 pub returns : goal.returns
 returns c = sym (edit_done _ _ _ (search rules)) ∙ c.loop-i.invariant.3

@@ -1,11 +1,9 @@
 -- `block_service::access::merge_part` meets its contract: the first i bytes are written, the others still to be.
 use Prim.Native.Nat.{◌-◌, ◌≤◌}
-use mathlib.Core.Path.{◌≡◌, sym, ◌∙◌}
-use native.Mathlib.Omega.{arith}
-use borrow.Author.Rules.{rules}
-use lib.ListN.{length, get_or, length-set}
+use mathlib.Core.Path.{◌≡◌}
+use lib.ListN.{length, get_or}
 use Rattle.common.specs.Lists.{edit}
-use Rattle.common.proofs.Edit.{edited_to, edit_start, edit_next, edit_done}
+use Rattle.common.proofs.Edit.{edited_to}
 use Rattle.block_service.specs.Access.{written_byte}
 use Rattle.block_service.proofs.access.merge_part.Given as goal
 

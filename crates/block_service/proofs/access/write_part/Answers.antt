@@ -1,8 +1,5 @@
 -- `block_service::access::write_part` meets its contract.
-use mathlib.Core.Path.{◌≡◌, sym, ◌∙◌}
-use native.Mathlib.Omega.{arith}
-use borrow.Author.Rules.{rules}
-use borrow.Author.Tests.{not-true, not-false}
+use mathlib.Core.Path.{sym, ◌∙◌}
 use Rattle.block_service.proofs.access.Moves.{write_plain}
 use Rattle.block_service.proofs.access.write_part.Goals as goal
 

@@ -1,6 +1,5 @@
 -- `block_service::access::written_byte` meets its contract: the write rule's three cases.
 use mathlib.Core.Path.{sym, ◌∙◌}
-use borrow.Author.Rules.{rules}
 use lib.Bits.{and_comm, or_comm}
 use Rattle.block_service.specs.Access.{written_byte}
 use Rattle.block_service.proofs.access.written_byte.Goals as goal

@@ -1,11 +1,10 @@
 -- `block_service::blocks::equal_blocks` meets its contract: the blocks counted and those that the rest of the entries begin with are all of them.
-use Prim.Native.Nat.{ℕ, ◌+◌, ◌-◌, ◌*◌, ◌/◌, ◌≤◌}
+use Prim.Native.Nat.{ℕ, ◌+◌, ◌*◌}
 use mathlib.Core.Path.{◌≡◌, refl, ap, ◌∙◌}
 use mathlib.Core.List.{List}
 use native.Mathlib.Omega.{arith}
 use borrow.Author.Rules.{rules}
-use lib.ListN.{length, get_or, drop}
-use Rattle.volume.specs.BlockMap.{blocks, max_blocks}
+use lib.ListN.{get_or, drop}
 use Rattle.block_service.specs.Blocks.{equal_blocks}
 use Rattle.block_service.proofs.blocks.Runs.{equal_within, equal_on, equal_stop, equal_end}
 use Rattle.block_service.proofs.blocks.equal_blocks.Goals as goal
@@ -19,7 +18,6 @@ all c = c.loop-i.invariant.3 ∙ ap (λ (j : ℕ). equal_blocks (drop (2 * j) c.
 
 -- a turn with its entry's length in hand
 module _ (c : After-wide) where
-
   abbrev words : List ℕ
   words = c.args.words.now
 

@@ -1,13 +1,9 @@
 -- `block_service::blocks::equal_blocks` meets its contract: the blocks counted and those that the rest of the entries begin with are all of them.
-use Prim.Native.Nat.{ℕ, ◌+◌, ◌-◌, ◌*◌, ◌/◌, ◌≤◌}
-use mathlib.Core.Path.{◌≡◌, refl, ap, ◌∙◌}
-use mathlib.Core.List.{List}
-use native.Mathlib.Omega.{arith}
-use borrow.Author.Rules.{rules}
-use lib.ListN.{length, get_or, drop}
+use Prim.Native.Nat.{◌+◌, ◌-◌, ◌*◌, ◌/◌, ◌≤◌}
+use mathlib.Core.Path.{◌≡◌}
+use lib.ListN.{length, drop}
 use Rattle.volume.specs.BlockMap.{blocks, max_blocks}
 use Rattle.block_service.specs.Blocks.{equal_blocks}
-use Rattle.block_service.proofs.blocks.Runs.{equal_within, equal_on, equal_stop, equal_end}
 use Rattle.block_service.proofs.blocks.equal_blocks.Given as goal
 
 abbrev pub invariant-loop-i : goal.invariant-loop-i

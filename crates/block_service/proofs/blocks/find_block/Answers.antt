@@ -1,12 +1,12 @@
 -- `block_service::blocks::find_block` meets its contract: the search from the entry at hand on is the whole search.
-use Prim.Native.Nat.{ℕ, ◌+◌, ◌-◌, ◌*◌, ◌/◌, ◌≤◌, ◌<◌}
+use Prim.Native.Nat.{ℕ, ◌+◌, ◌-◌, ◌*◌, ◌≤◌, ◌<◌}
 use mathlib.Core.Path.{refl, ◌≡◌, ◌∙◌}
 use mathlib.Core.List.{List}
 use native.Mathlib.Nat.{mul-le-mul_right}
 use native.Mathlib.Omega.{arith}
 use borrow.Author.Rules.{rules}
 use lib.ListN.{length, drop}
-use Rattle.volume.specs.BlockMap.{bytes, max_length}
+use Rattle.volume.specs.BlockMap.{bytes}
 use Rattle.block_service.specs.Blocks.{place, place_from}
 use Rattle.block_service.specs.declared.blocks.Place.TheVariants.{At}
 use Rattle.block_service.proofs.blocks.Runs.{find_hit, find_next, entry_bytes, find_end}
@@ -15,7 +15,6 @@ use Rattle.block_service.proofs.blocks.find_block.Goals.{After-wide-len}
 
 -- a turn with the entry's two words in hand
 module _ (c : After-wide-len) where
-
   abbrev words : List ℕ
   words = c.args.words.now
 

@@ -1,15 +1,9 @@
 -- `block_service::blocks::find_block` meets its contract: the search from the entry at hand on is the whole search.
-use Prim.Native.Nat.{ℕ, ◌+◌, ◌-◌, ◌*◌, ◌/◌, ◌≤◌, ◌<◌}
-use mathlib.Core.Path.{refl, ◌≡◌, ◌∙◌}
-use mathlib.Core.List.{List}
-use native.Mathlib.Nat.{mul-le-mul_right}
-use native.Mathlib.Omega.{arith}
-use borrow.Author.Rules.{rules}
+use Prim.Native.Nat.{◌+◌, ◌-◌, ◌*◌, ◌/◌, ◌≤◌}
+use mathlib.Core.Path.{◌≡◌}
 use lib.ListN.{length, drop}
 use Rattle.volume.specs.BlockMap.{bytes, max_length}
 use Rattle.block_service.specs.Blocks.{place, place_from}
-use Rattle.block_service.specs.declared.blocks.Place.TheVariants.{At}
-use Rattle.block_service.proofs.blocks.Runs.{find_hit, find_next, entry_bytes, find_end}
 use Rattle.block_service.proofs.blocks.find_block.Given as goal
 
 abbrev pub invariant-loop-entry : goal.invariant-loop-entry

@@ -1,12 +1,11 @@
 -- `block_service::blocks::run_end` meets its contract: where the rest of the run ends is where the whole does.
-use Prim.Native.Nat.{ℕ, ◌+◌, ◌-◌, ◌*◌, ◌≤◌, ◌<◌}
+use Prim.Native.Nat.{ℕ, ◌+◌, ◌*◌, ◌≤◌, ◌<◌}
 use mathlib.Core.Path.{◌≡◌, refl, ◌∙◌}
-use mathlib.Core.List.{List, ◌∷◌}
+use mathlib.Core.List.{List}
 use native.Mathlib.Omega.{arith}
 use borrow.Author.Rules.{rules}
-use lib.ListN.{length, get_or, drop}
-use Rattle.volume.specs.BlockMap.{blocks, max_length}
-use Rattle.block_service.specs.Blocks.{first_byte}
+use lib.ListN.{get_or, drop}
+use Rattle.volume.specs.BlockMap.{max_length}
 use Rattle.block_service.proofs.blocks.Runs.{entry_blocks, walk_stop, walk_on, walk_next, walk_more}
 use Rattle.block_service.proofs.blocks.run_end.Invariants.{ends}
 use Rattle.block_service.proofs.blocks.run_end.Goals as goal
@@ -14,7 +13,6 @@ use Rattle.block_service.proofs.blocks.run_end.Goals.{After-wide-len}
 
 -- a turn with its entry's length in hand
 module _ (c : After-wide-len) where
-
   abbrev words : List ℕ
   words = c.args.words.now
 

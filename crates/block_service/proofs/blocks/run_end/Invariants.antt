@@ -1,13 +1,10 @@
 -- `block_service::blocks::run_end` meets its contract: where the rest of the run ends is where the whole does.
 use Prim.Native.Nat.{ℕ, ◌+◌, ◌-◌, ◌*◌, ◌≤◌, ◌<◌}
-use mathlib.Core.Path.{◌≡◌, refl, ◌∙◌}
+use mathlib.Core.Path.{◌≡◌}
 use mathlib.Core.List.{List, ◌∷◌}
-use native.Mathlib.Omega.{arith}
-use borrow.Author.Rules.{rules}
 use lib.ListN.{length, get_or, drop}
 use Rattle.volume.specs.BlockMap.{blocks, max_length}
 use Rattle.block_service.specs.Blocks.{first_byte}
-use Rattle.block_service.proofs.blocks.Runs.{entry_blocks, walk_stop, walk_on, walk_next, walk_more}
 use Rattle.block_service.proofs.blocks.run_end.Given as goal
 
 -- where n blocks end, of which the first starts at byte `at`, with r blocks left in its entry i

@@ -1,5 +1,5 @@
 -- `block_service::carry::carry_front` meets its contract: the invariant: whatever makes the rest of the walk whole from here makes the order whole from the start, and every block named so far lies before `high`.
-use Prim.Native.Nat.{ℕ, ◌+◌, ◌-◌, ◌*◌, ◌≤◌, ◌<◌}
+use Prim.Native.Nat.{ℕ, ◌+◌, ◌*◌, ◌≤◌, ◌<◌}
 use mathlib.Core.Path.{◌≡◌, refl, sym, ap, ◌∙◌}
 use mathlib.Core.Bool.{true, false, true≢false}
 use mathlib.Core.List.{List}
@@ -7,8 +7,7 @@ use native.Mathlib.Omega.{arith}
 use lib.ListN.{length, get_or, drop}
 use Rattle.volume.specs.BlockMap.{blocks, bytes}
 use Rattle.block_service.specs.Erase.{end_of_list, good_list, whole_list}
-use Rattle.block_service.specs.Carry.{filled, names_first, Rest}
-use Rattle.block_service.specs.Order.{firsts, named_blocks, bytes_of, part}
+use Rattle.block_service.specs.Carry.{names_first, Rest}
 use Rattle.block_service.proofs.erase.Lists.{names_within, good_even, pair_good, past_list}
 use borrow.Author.Rules.{rules}
 use Rattle.block_service.proofs.carry.Orders.{order_short}

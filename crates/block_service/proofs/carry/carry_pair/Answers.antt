@@ -1,12 +1,8 @@
 -- `block_service::carry::carry_pair` meets its contract: the invariant: the blocks from the first up to `b` are walked over, and `k` is the number of the next byte.
 use Prim.Native.Nat.{◌+◌, ◌-◌, ◌≤◌}
-use mathlib.Core.Path.{◌≡◌, refl}
+use mathlib.Core.Path.{refl}
 use native.Mathlib.Omega.{arith}
-use lib.ListN.{length}
 use Rattle.volume.specs.BlockMap.{blocks, bytes}
-use Rattle.block_service.specs.Marks.{marked}
-use Rattle.block_service.specs.Carry.{Carried}
-use Rattle.block_service.specs.Order.{up_from}
 use Rattle.block_service.proofs.carry.Walks.{walk_start, walk-run, walk_bound, walk_sized}
 use borrow.Author.Rules.{rules}
 use Rattle.block_service.proofs.carry.carry_pair.Goals as goal

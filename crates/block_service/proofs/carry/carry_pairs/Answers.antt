@@ -1,15 +1,13 @@
 -- `block_service::carry::carry_pairs` meets its contract: the invariant: what is left from word `i` on, from number `k` on, is what was left at the start.
-use Prim.Native.Nat.{ℕ, ◌+◌, ◌-◌, ◌≤◌, ◌<◌}
+use Prim.Native.Nat.{ℕ, ◌+◌, ◌≤◌, ◌<◌}
 use mathlib.Core.Path.{◌≡◌, refl, sym, ◌∙◌}
-use mathlib.Core.Bool.{true, false, true≢false}
+use mathlib.Core.Bool.{true, true≢false}
 use mathlib.Core.List.{List}
 use native.Mathlib.Omega.{arith}
 use lib.ListN.{length, get_or, drop}
 use Rattle.volume.specs.BlockMap.{blocks, max_length}
 use Rattle.block_service.specs.Erase.{end_of_list, good_list, whole_list}
 use Rattle.block_service.specs.Marks.{marked}
-use Rattle.block_service.specs.Carry.{filled}
-use Rattle.block_service.specs.Order.{firsts, named_blocks, bytes_of, part}
 use Rattle.block_service.proofs.erase.Lists.{good_even, pair_good, past_list}
 use borrow.Author.Rules.{rules}
 use Rattle.block_service.proofs.carry.Walks.{pair_told, pair_stored, end_told, end_stored}

@@ -9,7 +9,6 @@ use Rattle.block_service.specs.Carry.{names_first}
 use Rattle.block_service.specs.Order.{named_blocks}
 use Rattle.block_service.proofs.marks.Bits.{unmarked}
 use Rattle.block_service.proofs.carry.Walks.{rest_same, left_same}
-use borrow.Author.Rules.{rules}
 use Rattle.block_service.proofs.carry.carry_rest.Goals as goal
 
 pub mark_front-requires : goal.mark_front-requires

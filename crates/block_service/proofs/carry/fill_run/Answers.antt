@@ -15,7 +15,6 @@ use Rattle.block_service.proofs.carry.fill_run.Goals.{After-run_bytes-run}
 
 -- where the run's bytes lie
 module _ (c : After-run_bytes-run) where
-
   abbrev run : ℕ → ℕ
   run = first_byte c.args.words.now
 

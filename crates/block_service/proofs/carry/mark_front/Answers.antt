@@ -1,10 +1,6 @@
 -- `block_service::carry::mark_front` meets its contract: the invariant: the blocks of the first `j` pairs are marked.
-use Prim.Native.Nat.{ℕ, ◌-◌, ◌≤◌}
 use mathlib.Core.Path.{◌≡◌}
 use native.Mathlib.Omega.{arith}
-use lib.ListN.{length}
-use Rattle.block_service.specs.Erase.{whole_list}
-use Rattle.block_service.specs.Marks.{marked}
 use Rattle.block_service.specs.Carry.{names_first}
 use borrow.Author.Rules.{rules}
 use Rattle.block_service.proofs.carry.Walks.{first_marks_at}

@@ -1,13 +1,10 @@
 -- `block_service::carry::mark_front` meets its contract: the invariant: the blocks of the first `j` pairs are marked.
 use Prim.Native.Nat.{ℕ, ◌-◌, ◌≤◌}
 use mathlib.Core.Path.{◌≡◌}
-use native.Mathlib.Omega.{arith}
 use lib.ListN.{length}
 use Rattle.block_service.specs.Erase.{whole_list}
 use Rattle.block_service.specs.Marks.{marked}
 use Rattle.block_service.specs.Carry.{names_first}
-use borrow.Author.Rules.{rules}
-use Rattle.block_service.proofs.carry.Walks.{first_marks_at}
 use Rattle.block_service.proofs.carry.mark_front.Given as goal
 
 abbrev pub invariant-loop-j : goal.invariant-loop-j

@@ -1,6 +1,5 @@
 -- `block_service::erase::erased_byte` meets its contract.
 use mathlib.Core.Path.{sym, ◌∙◌}
-use borrow.Author.Rules.{rules}
 use Rattle.block_service.specs.Access.{erased_byte}
 use Rattle.block_service.proofs.erase.erased_byte.Goals as goal
 

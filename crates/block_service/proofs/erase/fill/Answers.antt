@@ -1,11 +1,9 @@
 -- `block_service::erase::fill` meets its contract.
-use Prim.Native.Nat.{◌-◌, ◌≤◌}
-use mathlib.Core.Path.{◌≡◌, refl, sym, ◌∙◌}
+use mathlib.Core.Path.{refl, sym, ◌∙◌}
 use native.Mathlib.Omega.{arith}
 use borrow.Author.Rules.{rules}
-use lib.ListN.{length, length-set}
-use Rattle.common.specs.Lists.{edit}
-use Rattle.common.proofs.Edit.{edited_to, edit_start, edit_next, edit_done}
+use lib.ListN.{length-set}
+use Rattle.common.proofs.Edit.{edit_start, edit_next, edit_done}
 use Rattle.block_service.proofs.erase.fill.Goals as goal
 
 pub loop-i-init : goal.loop-i-init

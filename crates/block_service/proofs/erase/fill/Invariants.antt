@@ -1,11 +1,9 @@
 -- `block_service::erase::fill` meets its contract.
 use Prim.Native.Nat.{◌-◌, ◌≤◌}
-use mathlib.Core.Path.{◌≡◌, refl, sym, ◌∙◌}
-use native.Mathlib.Omega.{arith}
-use borrow.Author.Rules.{rules}
-use lib.ListN.{length, length-set}
+use mathlib.Core.Path.{◌≡◌}
+use lib.ListN.{length}
 use Rattle.common.specs.Lists.{edit}
-use Rattle.common.proofs.Edit.{edited_to, edit_start, edit_next, edit_done}
+use Rattle.common.proofs.Edit.{edited_to}
 use Rattle.block_service.proofs.erase.fill.Given as goal
 
 abbrev pub invariant-loop-i : goal.invariant-loop-i

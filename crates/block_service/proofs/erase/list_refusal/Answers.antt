@@ -1,14 +1,12 @@
 -- `block_service::erase::list_refusal` meets its contract: the list from place i on is good where the whole is, and a pair passed or one from there on
 -- names a protected block where one of the whole list does.
-use Prim.Native.Nat.{ℕ, ◌+◌, ◌-◌, ◌≤◌, ◌<◌}
-use mathlib.Core.Bool.{Bool, true, false, not, ◌||◌, or-false}
+use Prim.Native.Nat.{ℕ, ◌+◌, ◌≤◌, ◌<◌}
+use mathlib.Core.Bool.{Bool, true, false, not, or-false}
 use mathlib.Core.List.{List, [], ◌∷◌}
 use mathlib.Core.Path.{◌≡◌, refl, sym, ap, ◌∙◌}
-use mathlib.Core.Logic.{⊎_elim}
 use native.Mathlib.Omega.{arith}
 use borrow.Author.Rules.{rules}
-use borrow.Author.Tests.{not-false, not-true}
-use lib.ListN.{length, get_or, drop}
+use lib.ListN.{length, get_or}
 use Rattle.common.specs.Refusals.{first_refusal, row}
 use Rattle.common.proofs.Refusals.{row_applies}
 use Rattle.block_service.specs.Erase.{end_of_list, good_list, reaches, whole_list}
@@ -80,8 +78,8 @@ loop-i-preserved c =
       omega (arith, paired (goal.at.loop-i-preserved c).After-pair_fits),
       good_pair w i _ _ (paired (goal.at.loop-i-preserved c).After-pair_fits) (first_is (goal.at.loop-i-preserved c).After-pair_fits) (count_is (goal.at.loop-i-preserved c).After-pair_fits) (search rules) _ _ c.pair_fits.ensures c.if-not-pair_fits.false ∙ c.loop-i.invariant.1,
       elim c.if-protected-first.branch [
-          then-protected-first x ↦ rw x.reached-is (reach_hit w i _ _ (paired (goal.at.loop-i-preserved c).After-pair_fits) (first_is (goal.at.loop-i-preserved c).After-pair_fits) (count_is (goal.at.loop-i-preserved c).After-pair_fits) (search rules) _ f.0 c.loop-i.reached _ c.loop-i.invariant.2 (omega (arith, x.if-protected-first.true)))
-          | else-protected-first x ↦ rw x.reached-is (reach_miss w i _ _ (paired (goal.at.loop-i-preserved c).After-pair_fits) (first_is (goal.at.loop-i-preserved c).After-pair_fits) (count_is (goal.at.loop-i-preserved c).After-pair_fits) (search rules) _ f.0 c.loop-i.reached _ c.loop-i.invariant.2 (omega (arith, x.if-protected-first.false)))
+        | then-protected-first x ↦ rw x.reached-is (reach_hit w i _ _ (paired (goal.at.loop-i-preserved c).After-pair_fits) (first_is (goal.at.loop-i-preserved c).After-pair_fits) (count_is (goal.at.loop-i-preserved c).After-pair_fits) (search rules) _ f.0 c.loop-i.reached _ c.loop-i.invariant.2 (omega (arith, x.if-protected-first.true)))
+        | else-protected-first x ↦ rw x.reached-is (reach_miss w i _ _ (paired (goal.at.loop-i-preserved c).After-pair_fits) (first_is (goal.at.loop-i-preserved c).After-pair_fits) (count_is (goal.at.loop-i-preserved c).After-pair_fits) (search rules) _ f.0 c.loop-i.reached _ c.loop-i.invariant.2 (omega (arith, x.if-protected-first.false)))
       ],
     )
 

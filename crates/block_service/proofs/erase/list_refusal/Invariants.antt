@@ -1,19 +1,10 @@
 -- `block_service::erase::list_refusal` meets its contract: the list from place i on is good where the whole is, and a pair passed or one from there on
 -- names a protected block where one of the whole list does.
-use Prim.Native.Nat.{ℕ, ◌+◌, ◌-◌, ◌≤◌, ◌<◌}
-use mathlib.Core.Bool.{Bool, true, false, not, ◌||◌, or-false}
-use mathlib.Core.List.{List, [], ◌∷◌}
-use mathlib.Core.Path.{◌≡◌, refl, sym, ap, ◌∙◌}
-use mathlib.Core.Logic.{⊎_elim}
-use native.Mathlib.Omega.{arith}
-use borrow.Author.Rules.{rules}
-use borrow.Author.Tests.{not-false, not-true}
-use lib.ListN.{length, get_or, drop}
-use Rattle.common.specs.Refusals.{first_refusal, row}
-use Rattle.common.proofs.Refusals.{row_applies}
-use Rattle.block_service.specs.Erase.{end_of_list, good_list, reaches, whole_list}
-use Rattle.block_service.proofs.erase.ByteLists.{whole_length}
-use Rattle.block_service.proofs.erase.Lists.{fits_known, ends_good, ends-reaches, past_list, last_good, last_reaches, bad_pair, good_pair, reach_hit, reach_miss}
+use Prim.Native.Nat.{◌-◌, ◌≤◌}
+use mathlib.Core.Bool.{◌||◌}
+use mathlib.Core.Path.{◌≡◌}
+use lib.ListN.{length, drop}
+use Rattle.block_service.specs.Erase.{good_list, reaches, whole_list}
 use Rattle.block_service.proofs.erase.list_refusal.Given as goal
 
 abbrev pub invariant-loop-i : goal.invariant-loop-i

@@ -1,6 +1,5 @@
 -- `block_service::erase::word_count` meets its contract: the words, and a word for each eight bytes.
 use native.Mathlib.Omega.{arith}
-use borrow.Author.Rules.{rules}
 use Rattle.block_service.proofs.erase.ByteLists.{whole_length}
 use Rattle.block_service.proofs.erase.word_count.Goals as goal
 

@@ -1,5 +1,5 @@
 -- `block_service::judged::reach_judged` meets its contract: the search from the entry at hand on is the whole search.
-use Prim.Native.Nat.{ℕ, ◌+◌, ◌-◌, ◌*◌, ◌/◌, ◌≤◌, ◌<◌}
+use Prim.Native.Nat.{ℕ, ◌+◌, ◌-◌, ◌*◌, ◌≤◌, ◌<◌}
 use mathlib.Core.Bool.{Bool, true, false}
 use mathlib.Core.Path.{◌≡◌, ◌∙◌}
 use mathlib.Core.List.{List}
@@ -19,7 +19,6 @@ use Rattle.block_service.proofs.judged.reach_judged.Goals.{After-wide-len}
 
 -- a turn with the entry's two words in hand
 module _ (c : After-wide-len) where
-
   abbrev words : List ℕ
   words = c.args.words.now
 

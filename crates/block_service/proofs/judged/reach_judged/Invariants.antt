@@ -1,19 +1,10 @@
 -- `block_service::judged::reach_judged` meets its contract: the search from the entry at hand on is the whole search.
-use Prim.Native.Nat.{ℕ, ◌+◌, ◌-◌, ◌*◌, ◌/◌, ◌≤◌, ◌<◌}
-use mathlib.Core.Bool.{Bool, true, false}
-use mathlib.Core.Path.{◌≡◌, ◌∙◌}
-use mathlib.Core.List.{List}
-use native.Mathlib.Nat.{mul-le-mul_right, sub-zero}
-use native.Mathlib.Omega.{arith}
-use borrow.Author.Rules.{rules}
-use borrow.Author.Tests.{le-leb, lt-leb}
+use Prim.Native.Nat.{◌-◌, ◌*◌, ◌/◌, ◌≤◌}
+use mathlib.Core.Path.{◌≡◌}
 use lib.Dec.{leb}
 use lib.ListN.{length, drop}
 use Rattle.block_service.specs.Judged.{judged_reach}
-use Rattle.block_service.specs.declared.service.Reach.{Reach}
-use Rattle.block_service.specs.declared.service.Reach.TheVariants.{At, Refused}
-use Rattle.volume.proofs.block_map.Words.{product_fits}
-use Rattle.block_service.proofs.judged.Reaches.{reach_from, reach_judged, judged_end, judged_past, judged_kept, judged_hit, judged_next}
+use Rattle.block_service.proofs.judged.Reaches.{reach_from}
 use Rattle.block_service.proofs.judged.reach_judged.Given as goal
 
 abbrev pub invariant-loop-entry : goal.invariant-loop-entry

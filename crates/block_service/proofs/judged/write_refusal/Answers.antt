@@ -1,5 +1,4 @@
 -- `block_service::judged::write_refusal` meets its contract.
-use borrow.Author.Rules.{rules}
 use Rattle.volume.specs.State.{state_with}
 use Rattle.block_service.proofs.judged.write_refusal.Goals as goal
 

@@ -1,5 +1,4 @@
 -- `block_service::marks::alike_end` meets its contract: the invariant: the blocks from `b` up to `i` are as wanted.
-use Prim.Native.Nat.{ℕ, ◌-◌, ◌≤◌, ◌<◌}
 use mathlib.Core.Path.{◌≡◌}
 use native.Mathlib.Omega.{arith}
 use Rattle.block_service.specs.Marks.{marked}

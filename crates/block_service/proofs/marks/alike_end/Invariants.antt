@@ -1,10 +1,7 @@
 -- `block_service::marks::alike_end` meets its contract: the invariant: the blocks from `b` up to `i` are as wanted.
 use Prim.Native.Nat.{ℕ, ◌-◌, ◌≤◌, ◌<◌}
 use mathlib.Core.Path.{◌≡◌}
-use native.Mathlib.Omega.{arith}
 use Rattle.block_service.specs.Marks.{marked}
-use Rattle.block_service.proofs.marks.Bits.{alike_next}
-use borrow.Author.Rules.{rules}
 use Rattle.block_service.proofs.marks.alike_end.Given as goal
 
 abbrev pub invariant-loop-i : goal.invariant-loop-i

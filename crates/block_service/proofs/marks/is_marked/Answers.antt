@@ -1,7 +1,6 @@
 -- `block_service::marks::is_marked` meets its contract: the bit of block x is that of its word.
 use mathlib.Core.Path.{refl}
 use Rattle.block_service.specs.Marks.{marked}
-use borrow.Author.Rules.{rules}
 use Rattle.block_service.proofs.marks.is_marked.Goals as goal
 
 pub returns : goal.returns

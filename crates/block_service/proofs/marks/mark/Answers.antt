@@ -1,11 +1,6 @@
 -- `block_service::marks::mark` meets its contract: the invariant: the blocks from `b` up to `i` are marked, and no other mark changed.
-use Prim.Native.Nat.{ℕ, ◌-◌, ◌≤◌}
-use mathlib.Core.Bool.{◌&&◌, ◌||◌}
 use mathlib.Core.Path.{◌≡◌}
 use native.Mathlib.Omega.{arith}
-use lib.Dec.{leb, ltb}
-use lib.ListN.{length}
-use Rattle.block_service.specs.Marks.{marked}
 use Rattle.block_service.proofs.marks.Bits.{mark_none, mark_next}
 use borrow.Author.Rules.{rules}
 use Rattle.block_service.proofs.marks.mark.Goals as goal

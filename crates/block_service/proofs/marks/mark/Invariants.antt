@@ -2,12 +2,9 @@
 use Prim.Native.Nat.{ℕ, ◌-◌, ◌≤◌}
 use mathlib.Core.Bool.{◌&&◌, ◌||◌}
 use mathlib.Core.Path.{◌≡◌}
-use native.Mathlib.Omega.{arith}
 use lib.Dec.{leb, ltb}
 use lib.ListN.{length}
 use Rattle.block_service.specs.Marks.{marked}
-use Rattle.block_service.proofs.marks.Bits.{mark_none, mark_next}
-use borrow.Author.Rules.{rules}
 use Rattle.block_service.proofs.marks.mark.Given as goal
 
 abbrev pub invariant-loop-i : goal.invariant-loop-i

@@ -1,5 +1,4 @@
 -- `block_service::service::carry_byte_list` meets its contract: all of the list comes as bytes.
-use borrow.Author.Rules.{rules}
 use Rattle.block_service.proofs.erase.ByteLists.{bytes_alone}
 use Rattle.block_service.proofs.service.carry_byte_list.Goals as goal
 

@@ -1,5 +1,4 @@
 -- `block_service::service::carry_erase` meets its contract: all of the list comes as words.
-use borrow.Author.Rules.{rules}
 use Rattle.block_service.proofs.erase.ByteLists.{words_alone}
 use Rattle.block_service.proofs.service.carry_erase.Goals as goal
 

@@ -1,6 +1,5 @@
 -- `block_service::service::carry_good` meets its contract: after the count, which stores nothing, the job is refused, the list is, or the portion is stored, to the end or short of it.
 use native.Mathlib.Omega.{arith}
-use borrow.Author.Tests.{not-true, not-false}
 use Rattle.block_service.proofs.service.Carrying.{progress_2, progress_15, progress_done, progress_job, given-le}
 use borrow.Author.Rules.{rules}
 use Rattle.block_service.proofs.service.carry_good.Goals as goal

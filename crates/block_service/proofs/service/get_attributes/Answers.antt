@@ -1,7 +1,6 @@
 -- `block_service::service::get_attributes` meets its contract.
 use mathlib.Core.Path.{◌≡◌, sym, ◌∙◌}
 use mathlib.Core.Bool.{false}
-use borrow.Author.Rules.{rules}
 use Rattle.common.proofs.Refusals.{row_passes, no_row}
 use Rattle.volume.specs.State.{state_with, unlawful}
 use Rattle.block_service.specs.Service.{get_attributes, settings_answer, buffer_of, refusals, perform, effect}

@@ -50,8 +50,6 @@ map-length c = search rules
 
 -- the block was found
 module _ (c : In-At) where
-
-
   abbrev left : ℕ
   left = c.in-At.left
 

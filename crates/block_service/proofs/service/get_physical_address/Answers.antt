@@ -1,7 +1,6 @@
 -- `block_service::service::get_physical_address` meets its contract.
 use mathlib.Core.Path.{◌≡◌, sym, ap, ◌∙◌}
 use mathlib.Core.Bool.{false, not}
-use borrow.Author.Rules.{rules}
 use Rattle.common.proofs.Refusals.{row_applies, row_passes, no_row}
 use Rattle.volume.specs.Attributes.{flag, memory_mapped}
 use Rattle.volume.specs.State.{state_with, unlawful}

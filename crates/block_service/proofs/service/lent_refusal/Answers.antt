@@ -4,7 +4,6 @@ use mathlib.Core.Bool.{false, not}
 use mathlib.Core.List.{List}
 use Prim.Native.Nat.{ℕ}
 use native.Mathlib.Omega.{arith}
-use borrow.Author.Rules.{rules}
 use borrow.Author.Tests.{lt-ltb, le-ltb}
 use Rattle.common.proofs.Refusals.{row_applies, row_passes, no_row}
 use Rattle.volume.specs.State.{state_with, unlawful}

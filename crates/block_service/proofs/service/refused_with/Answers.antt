@@ -1,7 +1,6 @@
 -- `block_service::service::refused_with` meets its contract: each return is by the check's case.
 use Rattle.block_service.specs.Carry.{refused_with}
 use Rattle.block_service.specs.Service.{refusal_of}
-use borrow.Author.Rules.{rules}
 use Rattle.block_service.proofs.service.refused_with.Goals as goal
 
 pub returns-in-Refused : goal.returns-in-Refused

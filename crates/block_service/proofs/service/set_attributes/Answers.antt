@@ -1,7 +1,6 @@
 -- `block_service::service::set_attributes` meets its contract: each test is a row of the table.
 use mathlib.Core.Path.{◌≡◌, sym, ◌∙◌}
 use mathlib.Core.Bool.{false}
-use borrow.Author.Rules.{rules}
 use Rattle.common.proofs.Refusals.{row_applies, row_passes, no_row}
 use Rattle.volume.specs.State.{state_with, unlawful}
 use Rattle.block_service.specs.Service.{set_attributes, settings_answer, buffer_of, refusals, perform, effect, with_attributes}

@@ -2,6 +2,7 @@
 use mathlib.Core.Path.{sym, ap, ◌∙◌}
 use Rattle.sections.specs.Types.{info_among, type_info}
 use Rattle.sections.proofs.types.Rows.{unlisted}
+use borrow.Author.Rules.{rules}
 use Rattle.sections.proofs.types.type_info.Goals as goal
 
 pub returns-in-1 : goal.returns-in-1
@@ -58,18 +59,5 @@ returns-in-27 c = c.plain_leaf-in-27.ensures ∙ sym (ap type_info c.in-27.is)
 
 pub returns-in_default : goal.returns-in_default
 returns-in_default c =
-    let r13 = c.in_default.in_default-own.rest in
-    let r12 = r13.0 in
-    let r11 = r12.0 in
-    let r10 = r11.0 in
-    let r9 = r10.0 in
-    let r8 = r9.0 in
-    let r7 = r8.0 in
-    let r6 = r7.0 in
-    let r5 = r6.0 in
-    let r4 = r5.0 in
-    let r3 = r4.0 in
-    let r2 = r3.0 in
-    let r1 = r2.0 in
     c.plain_leaf-in_default.ensures
-    ∙ sym (unlisted _ r1.1 r2.1 r3.1 r4.1 r5.1 r6.1 r7.1 r8.1 r9.1 r10.1 r11.1 r12.1 r13.1)
+    ∙ sym (unlisted _ (search rules) (search rules) (search rules) (search rules) (search rules) (search rules) (search rules) (search rules) (search rules) (search rules) (search rules) (search rules) (search rules))

@@ -1,5 +1,5 @@
 -- `volume::attributes::attributes_fault` meets its contract: each test is one of the edition's.
-use Rattle.std.proofs.Common.{◌≡◌, false, not, ◌&&◌, eqb, sym, ◌∙◌, rules, ne_eqb}
+use Rattle.std.proofs.Common.{◌≡◌, false, not, ◌&&◌, eqb, sym, ◌∙◌, ne_eqb}
 use mathlib.Core.Bool.{or-true, or-false}
 use Rattle.common.specs.Refusals.{any}
 use Rattle.volume.specs.Attributes.{flag, alignment_cap, alignments, attributes_fault}

@@ -1,5 +1,5 @@
 -- `volume::attributes::base_fault` meets its contract: the two tests are the rule's.
-use Rattle.std.proofs.Common.{sym, ◌∙◌, rules}
+use Rattle.std.proofs.Common.{sym, ◌∙◌}
 use Rattle.volume.specs.Attributes.{base_fault}
 use Rattle.volume.proofs.attributes.base_fault.Goals as goal
 

@@ -1,6 +1,5 @@
 -- `volume::block_map::all_zero` meets its contract: what is gathered so far and the words left decide as all the words do.
-use Rattle.std.proofs.Common.{◌≡◌, ◌-◌, ◌≤◌, ◌&&◌, eqb, length, drop, sym, refl, ◌∙◌, rules}
-use Rattle.volume.specs.BlockMap.{all_zero}
+use Rattle.std.proofs.Common.{sym, refl, ◌∙◌, rules}
 use Rattle.volume.proofs.block_map.Words.{gathered_next, gathered_end}
 use Rattle.volume.proofs.block_map.all_zero.Goals as goal
 

@@ -1,7 +1,6 @@
 -- `volume::block_map::all_zero` meets its contract: what is gathered so far and the words left decide as all the words do.
-use Rattle.std.proofs.Common.{◌≡◌, ◌-◌, ◌≤◌, ◌&&◌, eqb, length, drop, sym, refl, ◌∙◌, rules}
+use Rattle.std.proofs.Common.{◌≡◌, ◌-◌, ◌≤◌, ◌&&◌, eqb, length, drop}
 use Rattle.volume.specs.BlockMap.{all_zero}
-use Rattle.volume.proofs.block_map.Words.{gathered_next, gathered_end}
 use Rattle.volume.proofs.block_map.all_zero.Given as goal
 
 abbrev pub invariant-loop-i : goal.invariant-loop-i

@@ -1,6 +1,5 @@
 -- `volume::block_map::block_count` meets its contract: the blocks counted and those of the entries left make the map's.
-use Rattle.std.proofs.Common.{◌≡◌, ℕ, ◌+◌, ◌-◌, ◌*◌, ◌≤◌, List, length, take, drop, arith, rules}
-use Rattle.volume.specs.BlockMap.{blocks, max_entries}
+use Rattle.std.proofs.Common.{◌≡◌, ℕ, List, length, arith, rules}
 use Rattle.volume.proofs.block_map.Words.{counted_entry, counted_end}
 use Rattle.volume.proofs.block_map.block_count.Goals as goal
 use Rattle.volume.proofs.block_map.block_count.Goals.{At-loop-i}

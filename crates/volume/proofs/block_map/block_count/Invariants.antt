@@ -1,7 +1,6 @@
 -- `volume::block_map::block_count` meets its contract: the blocks counted and those of the entries left make the map's.
-use Rattle.std.proofs.Common.{◌≡◌, ℕ, ◌+◌, ◌-◌, ◌*◌, ◌≤◌, List, length, take, drop, arith, rules}
+use Rattle.std.proofs.Common.{◌≡◌, ◌+◌, ◌-◌, ◌*◌, ◌≤◌, take, drop}
 use Rattle.volume.specs.BlockMap.{blocks, max_entries}
-use Rattle.volume.proofs.block_map.Words.{counted_entry, counted_end}
 use Rattle.volume.proofs.block_map.block_count.Given as goal
 
 abbrev pub invariant-loop-i : goal.invariant-loop-i

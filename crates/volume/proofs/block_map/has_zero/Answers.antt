@@ -1,6 +1,5 @@
 -- `volume::block_map::has_zero` meets its contract: what was found so far and the words left decide as all the words do.
-use Rattle.std.proofs.Common.{◌≡◌, ◌-◌, ◌≤◌, not, ◌||◌, eqb, length, drop, sym, refl, ◌∙◌, rules}
-use Rattle.volume.specs.BlockMap.{has_zero}
+use Rattle.std.proofs.Common.{sym, refl, ◌∙◌, rules}
 use Rattle.volume.proofs.block_map.Words.{found_next, found_end}
 use Rattle.volume.proofs.block_map.has_zero.Goals as goal
 

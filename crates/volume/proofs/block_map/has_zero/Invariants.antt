@@ -1,7 +1,6 @@
 -- `volume::block_map::has_zero` meets its contract: what was found so far and the words left decide as all the words do.
-use Rattle.std.proofs.Common.{◌≡◌, ◌-◌, ◌≤◌, not, ◌||◌, eqb, length, drop, sym, refl, ◌∙◌, rules}
+use Rattle.std.proofs.Common.{◌≡◌, ◌-◌, ◌≤◌, not, ◌||◌, eqb, length, drop}
 use Rattle.volume.specs.BlockMap.{has_zero}
-use Rattle.volume.proofs.block_map.Words.{found_next, found_end}
 use Rattle.volume.proofs.block_map.has_zero.Given as goal
 
 abbrev pub invariant-loop-i : goal.invariant-loop-i

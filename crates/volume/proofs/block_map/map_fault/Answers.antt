@@ -1,6 +1,6 @@
 -- `volume::block_map::map_fault` meets its contract: with 0 in the first protected block's place that test never holds.
 use mathlib.Core.Bool.{or-false}
-use Rattle.std.proofs.Common.{arith, rules, le-ltb}
+use Rattle.std.proofs.Common.{arith, le-ltb}
 use Rattle.volume.specs.BlockMap.{blocks}
 use Rattle.volume.proofs.block_map.map_fault.Goals as goal
 

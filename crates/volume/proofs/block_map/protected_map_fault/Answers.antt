@@ -1,6 +1,6 @@
 -- `volume::block_map::protected_map_fault` meets its contract: each test is one of rule 107's, and the totals come last, with rule 106's zero words and the first protected block.
 use mathlib.Core.Bool.{or-true, or-false, or_assoc}
-use Rattle.std.proofs.Common.{rules, le-ltb, lt-ltb, eq-eqb, ne_eqb}
+use Rattle.std.proofs.Common.{le-ltb, lt-ltb, eq-eqb, ne_eqb}
 use Rattle.common.specs.Refusals.{any}
 use Rattle.volume.specs.BlockMap.{size_fault}
 use Rattle.volume.proofs.block_map.protected_map_fault.Goals as goal

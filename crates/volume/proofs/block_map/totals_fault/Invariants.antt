@@ -1,7 +1,6 @@
 -- `volume::block_map::totals_fault` meets its contract: the running sums and those of the entries left make the map's, and no entry passed has a zero word.
-use Rattle.std.proofs.Common.{◌≡◌, ℕ, ◌+◌, ◌-◌, ◌*◌, ◌<◌, ◌≤◌, List, length, get_or, drop, sym, ap, ◌∙◌, ap₂, arith, rules}
+use Rattle.std.proofs.Common.{◌≡◌, ◌+◌, ◌-◌, ◌*◌, ◌≤◌, drop}
 use Rattle.volume.specs.BlockMap.{blocks, bytes, has_zero, max_length}
-use Rattle.volume.proofs.block_map.Words.{product_fits, blocks_entry, bytes_entry, blocks_end, bytes_end, has_zero_end, zero_size, nonzero_size, zero_word, too_many, wrong_total, totals_end}
 use Rattle.volume.proofs.block_map.totals_fault.Given as goal
 
 abbrev pub invariant-loop-i : goal.invariant-loop-i

@@ -1,7 +1,7 @@
 -- `volume::extended_entry::entry_from` meets its contract: the entry asked among all is the one of the number left among those left.
-use Rattle.std.proofs.Common.{◌≡◌, ℕ, ◌-◌, ◌≤◌, false, List, sym, refl, ◌∙◌, arith, rules}
+use Rattle.std.proofs.Common.{◌≡◌, ℕ, false, List, sym, refl, ◌∙◌, arith, rules}
 use Rattle.volume.specs.ExtendedHeader.{entries_from, entries_faulty}
-use Rattle.volume.specs.ExtendedEntry.{entry_answer, entry_of, entries_listed}
+use Rattle.volume.specs.ExtendedEntry.{entry_answer}
 use Rattle.volume.proofs.extended_header.Entries.{Next, next, good_within}
 use Rattle.volume.proofs.extended_entry.Numbered.{first_asked, later_asked, none_asked}
 use Rattle.volume.proofs.extended_entry.entry_from.Goals as goal

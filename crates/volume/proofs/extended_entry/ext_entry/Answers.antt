@@ -1,5 +1,4 @@
 -- `volume::extended_entry::ext_entry` meets its contract: opening's refusal, no extended header, or the walk to the entry.
-use Rattle.std.proofs.Common.{rules}
 use Rattle.volume.specs.ExtendedEntry.{entry_answer}
 use Rattle.volume.proofs.extended_entry.Numbered.{entry_refused, no_edition, no_entries, good_entries, entry_asked}
 use Rattle.volume.proofs.extended_entry.ext_entry.Goals as goal

@@ -1,5 +1,5 @@
 -- `volume::extended_header::entries_fault` meets its contract: what is left of the entries is at fault where the whole is.
-use Rattle.std.proofs.Common.{◌≡◌, ℕ, ◌+◌, ◌-◌, ◌≤◌, sym, refl, ap, ◌∙◌, arith, rules}
+use Rattle.std.proofs.Common.{ℕ, ◌+◌, sym, refl, ap, ◌∙◌, arith, rules}
 use Rattle.volume.specs.ExtendedHeader.{entries_from, entries_faulty}
 use Rattle.volume.proofs.extended_header.Entries.{cut_faulty, small_faulty, past_faulty, next_faulty, end_faulty}
 use Rattle.volume.proofs.extended_header.entries_fault.Goals as goal

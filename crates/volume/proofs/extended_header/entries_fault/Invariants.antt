@@ -1,7 +1,6 @@
 -- `volume::extended_header::entries_fault` meets its contract: what is left of the entries is at fault where the whole is.
-use Rattle.std.proofs.Common.{◌≡◌, ℕ, ◌+◌, ◌-◌, ◌≤◌, sym, refl, ap, ◌∙◌, arith, rules}
+use Rattle.std.proofs.Common.{◌≡◌, ◌-◌, ◌≤◌}
 use Rattle.volume.specs.ExtendedHeader.{entries_from, entries_faulty}
-use Rattle.volume.proofs.extended_header.Entries.{cut_faulty, small_faulty, past_faulty, next_faulty, end_faulty}
 use Rattle.volume.proofs.extended_header.entries_fault.Given as goal
 
 abbrev pub invariant-loop-at : goal.invariant-loop-at

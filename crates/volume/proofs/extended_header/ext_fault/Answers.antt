@@ -1,5 +1,5 @@
 -- `volume::extended_header::ext_fault` meets its contract: edition 1 has no offset, and edition 2's is judged.
-use Rattle.std.proofs.Common.{arith, rules}
+use Rattle.std.proofs.Common.{arith}
 use Rattle.volume.proofs.extended_header.Entries.{first_due, second_due}
 use Rattle.volume.proofs.extended_header.ext_fault.Goals as goal
 

@@ -1,5 +1,5 @@
 -- `volume::extended_header::offset_fault` meets its contract: each test is one of rule 112's.
-use Rattle.std.proofs.Common.{◌≡◌, ℕ, List, ◌∙◌, arith, rules}
+use Rattle.std.proofs.Common.{◌≡◌, ℕ, List, ◌∙◌, arith}
 use Rattle.volume.specs.ExtendedHeader.{ext_size_at}
 use Rattle.volume.proofs.extended_header.Entries.{no_offset, starts_inside, head_leaves, under_twenty, size_leaves, entries_decide}
 use Rattle.volume.proofs.extended_header.offset_fault.Goals as goal

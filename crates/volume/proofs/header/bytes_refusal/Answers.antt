@@ -1,5 +1,5 @@
 -- `volume::header::bytes_refusal` meets its contract: each return is the first row of the table whose test holds.
-use Rattle.std.proofs.Common.{◌≡◌, ℕ, ◌%◌, true, false, not, eqb, ltb, List, length, take, sym, ◌∙◌, arith, length-take-le, rules, le-ltb, lt-ltb, eq-eqb, ne_eqb}
+use Rattle.std.proofs.Common.{◌≡◌, ℕ, ◌%◌, true, false, not, eqb, ltb, List, length, take, sym, ◌∙◌, arith, length-take-le, le-ltb, lt-ltb, eq-eqb, ne_eqb}
 use Rattle.common.specs.Refusals.{first_refusal}
 use Rattle.volume.specs.Attributes.{known_edition}
 use Rattle.volume.specs.Header.{header_length_at, header_length_fault, min_header, open_refusals, refusal_of, revision_at, signature, signature_at, word_modulus, word_sum}

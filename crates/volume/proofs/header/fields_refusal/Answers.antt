@@ -1,5 +1,5 @@
 -- `volume::header::fields_refusal` meets its contract: each return is the first row of the table whose test holds.
-use Rattle.std.proofs.Common.{◌≡◌, ℕ, ◌-◌, ◌*◌, false, List, [], ◌∷◌, take, drop, sym, ap, ◌∙◌, arith, length-take-le, rules, le-ltb, lt-ltb, eq-eqb, ne_eqb}
+use Rattle.std.proofs.Common.{◌≡◌, ℕ, ◌-◌, ◌*◌, false, List, [], ◌∷◌, take, drop, sym, ap, ◌∙◌, arith, length-take-le, le-ltb, lt-ltb, eq-eqb, ne_eqb}
 use Rattle.common.specs.Refusals.{first_refusal, row}
 use Rattle.common.proofs.Refusals.{row_applies, row_passes, no_row}
 use Rattle.numbers.specs.LittleEndian.{le}

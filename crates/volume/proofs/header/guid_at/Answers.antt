@@ -1,5 +1,5 @@
 -- `volume::header::guid_at` meets its contract: the bytes stored so far and those left make the GUID.
-use Rattle.std.proofs.Common.{◌≡◌, ◌-◌, ◌≤◌, ◌++◌, length, take, drop, refl, ◌∙◌, arith, length-drop, length-set, length-take-le, get_or-drop, get_or-take, rules}
+use Rattle.std.proofs.Common.{◌≡◌, length, take, drop, refl, ◌∙◌, arith, length-drop, length-set, length-take-le, get_or-drop, get_or-take, rules}
 use Rattle.common.proofs.Lists.{fill_next, fill_done}
 use Rattle.volume.proofs.header.guid_at.Goals as goal
 

@@ -1,5 +1,5 @@
 -- `volume::header::open_volume` meets its contract: the two tables in a row, and the state whose parts the second judges.
-use Rattle.std.proofs.Common.{◌≡◌, ℕ, ◌-◌, ◌*◌, ◌/◌, List, take, sym, ap, ◌∙◌, arith, rules}
+use Rattle.std.proofs.Common.{◌≡◌, ℕ, ◌-◌, ◌*◌, ◌/◌, List, take, sym, ap, ◌∙◌, arith}
 use mathlib.Core.Option.{none}
 use Rattle.common.specs.Refusals.{first_refusal}
 use Rattle.volume.specs.BlockMap.{blocks}

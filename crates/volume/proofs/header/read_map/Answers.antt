@@ -1,5 +1,5 @@
 -- `volume::header::read_map` meets its contract: the words stored so far and those left make the map, and what stood beyond them stays.
-use Rattle.std.proofs.Common.{◌≡◌, ℕ, ◌+◌, ◌-◌, ◌*◌, ◌≤◌, List, ◌++◌, length, take, drop, sym, refl, ap, ◌∙◌, arith, length-set, rules}
+use Rattle.std.proofs.Common.{◌≡◌, ℕ, ◌+◌, ◌*◌, List, ◌++◌, drop, sym, refl, ap, ◌∙◌, arith, length-set, rules}
 use Rattle.common.proofs.Lists.{beyond_next, fill_next, fill_front}
 use Rattle.numbers.proofs.LittleEndian.{le_four}
 use Rattle.volume.specs.Header.{map_start, words_at}

@@ -1,9 +1,6 @@
 -- `volume::header::read_map` meets its contract: the words stored so far and those left make the map, and what stood beyond them stays.
-use Rattle.std.proofs.Common.{◌≡◌, ℕ, ◌+◌, ◌-◌, ◌*◌, ◌≤◌, List, ◌++◌, length, take, drop, sym, refl, ap, ◌∙◌, arith, length-set, rules}
-use Rattle.common.proofs.Lists.{beyond_next, fill_next, fill_front}
-use Rattle.numbers.proofs.LittleEndian.{le_four}
+use Rattle.std.proofs.Common.{◌≡◌, ◌-◌, ◌*◌, ◌≤◌, ◌++◌, length, take, drop}
 use Rattle.volume.specs.Header.{map_start, words_at}
-use Rattle.volume.proofs.header.Fields.{length-words_at, words_at_at}
 use Rattle.volume.proofs.header.read_map.Given as goal
 
 abbrev pub invariant-loop-i : goal.invariant-loop-i

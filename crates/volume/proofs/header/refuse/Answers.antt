@@ -1,5 +1,4 @@
 -- `volume::header::refuse` meets its contract: the zero state, written out.
-use Rattle.std.proofs.Common.{rules}
 use Rattle.volume.specs.BlockMap.{blocks}
 use Rattle.volume.specs.Header.{opening_answer}
 use Rattle.volume.specs.State.{state_of, zero_state}

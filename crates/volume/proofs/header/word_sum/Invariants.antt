@@ -1,8 +1,6 @@
 -- `volume::header::word_sum` meets its contract: what the accumulator holds after the last whole word, and the odd byte that may be left.
-use Rattle.std.proofs.Common.{◌≡◌, ℕ, ◌-◌, ◌%◌, ◌≤◌, List, length, take, refl, ap, ◌∙◌, arith, take_all, rules}
-use Rattle.numbers.proofs.LittleEndian.{le_two, le_last}
+use Rattle.std.proofs.Common.{◌≡◌, ◌-◌, ◌%◌, ◌≤◌, length, take}
 use Rattle.volume.specs.Header.{word_modulus, word_sum}
-use Rattle.volume.proofs.header.Sums.{sum_so_far, sum_whole}
 use Rattle.volume.proofs.header.word_sum.Given as goal
 
 -- 02, d: "after each word it holds the true sum so far modulo 65,536"; the words so far are the i bytes before the next one

@@ -1,5 +1,4 @@
 -- `volume::header_writer::store_back` meets its contract: three stores in a row.
-use Rattle.std.proofs.Common.{rules}
 use Rattle.volume.proofs.header_writer.Stores.{back_stored}
 use Rattle.volume.proofs.header_writer.store_back.Goals as goal
 

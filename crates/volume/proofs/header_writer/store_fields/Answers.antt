@@ -1,5 +1,5 @@
 -- `volume::header_writer::store_fields` meets its contract: eight runs of stores in a row are the header's first 52 bytes.
-use Rattle.std.proofs.Common.{◌≡◌, length, ◌∙◌, rules}
+use Rattle.std.proofs.Common.{◌≡◌, length, rules}
 use Rattle.volume.proofs.header_writer.Stores.{fields_stored}
 use Rattle.volume.proofs.header_writer.store_fields.Goals as goal
 use Rattle.volume.proofs.header_writer.store_fields.Goals.{After-room-8-1, Start}

@@ -1,9 +1,7 @@
 -- `volume::header_writer::store_map` meets its contract: what is left of the map's bytes to store makes the same room as the whole.
-use Rattle.std.proofs.Common.{◌≡◌, ℕ, ◌+◌, ◌-◌, ◌*◌, ◌≤◌, List, ◌++◌, length, drop, replicate, sym, refl, ap, ◌∙◌, arith, rules}
+use Rattle.std.proofs.Common.{◌≡◌, ◌+◌, ◌-◌, ◌*◌, ◌≤◌, ◌++◌, length, drop, replicate}
 use lib.Seq.{sets}
-use Rattle.numbers.specs.LittleEndian.{le_bytes}
 use Rattle.volume.specs.HeaderWriter.{words_bytes}
-use Rattle.volume.proofs.header_writer.Stores.{words_next, words_end}
 use Rattle.volume.proofs.header_writer.store_map.Given as goal
 
 abbrev pub invariant-loop-i : goal.invariant-loop-i

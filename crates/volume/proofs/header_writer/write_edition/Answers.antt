@@ -36,7 +36,6 @@ allowed c = sym c.attributes_fault.ensures ∙ c.if-attributes_fault.false
 
 -- an accepted request: the arguments, their sizes, and the header that they make
 module _ (c : Else-room-header) where
-
   abbrev guid : List ℕ
   guid = c.args.guid
 
@@ -67,9 +66,6 @@ module _ (c : Else-room-header) where
 
 -- after the two stores the room holds the header, with 0 for its checksum
 module _ (c : After-store_map) where
-
-
-
   header_there : c.store_map.new.room ≡ header (goal.at.After-store_map c).Else-room-header 0 ++ drop (long (goal.at.After-store_map c).Else-room-header) (room (goal.at.After-store_map c).Else-room-header)
   header_there =
       let a = c.args in
