@@ -2,27 +2,43 @@
 // listing, or `refused` and the number.
 #![tactic(auto)]
 
-ghost use Rattle.std.specs.Prelude.{◌≤◌, IfOk, length};
+ghost use Rattle.std.specs.Prelude.{◌≤◌, ◌<◌, IfOk, IfSome, OnOk, length, take};
+ghost use Rattle.std.specs.Io.KnownBytes.{Appends, Consumes, IsAtEnd};
+ghost use Rattle.listing.specs.Listing.{listing};
 
 use listing::{Listed, list_volume};
 use std::io;
-use std::io::Read;
+use std::io::{Read, Write};
+
+// The most bytes of a volume that are read.
+const INPUT: usize = 65536;
 
 fn main(rt: HostRuntime) -> io::Result<()> {
-    let mut input = [0u8; 65536];
-    let n = read_full(&mut rt.reader(), &mut input)?;
+    list(&mut rt.reader(), &mut io::writer(&rt))
+}
+
+// Reads up to 65,536 bytes and writes their listing. Where it is known which bytes the reader has,
+// and what the writer holds, the listing of the first 65,536 is all that is written.
+fn list<R: Read, W: Write>(from: &mut R, to: &mut W) -> io::Result<()>
+    ensures { OnOk result (IfSome (R.remaining from.old) (λ xs. Appends (W.contents to.old) (W.contents to.new) (listing (take 65536 xs)))) }
+{
+    let mut input = [0u8; INPUT];
+    let n = read_full(from, &mut input)?;
     let mut text = [0u8; 4096];
     let listed = list_volume(&input[..n], &mut text);
     match listed {
-        Listed::Success(k) => rt.write_all(&text[..k]),
+        Listed::Success(k) => to.write_all(&text[..k]),
         // No listing is longer than the room: `unreachable` asks for a proof of that.
         Listed::Refused(_) => unreachable!(),
     }
 }
 
-// Reads until the buffer is full or the input ends, and answers how many bytes came.
-fn read_full(from: &mut impl Read, buffer: &mut [u8]) -> io::Result<usize>
-    ensures { IfOk result (λ n. n ≤ length buffer.new) }
+// Reads until the buffer is full or the input ends, and answers how many bytes came: they stand at
+// the buffer's start, in the input's order, and where they don't fill it the input is at its end.
+fn read_full<R: Read>(from: &mut R, buffer: &mut [u8]) -> io::Result<usize>
+    ensures bound { IfOk result (λ n. n ≤ length buffer.new) }
+    ensures bytes { IfOk result (λ n. Consumes (R.remaining from.old) (R.remaining from.new) (take n buffer.new)) }
+    ensures end { IfOk result (λ n. n < length buffer.new → IsAtEnd (R.remaining from.new)) }
 {
     let mut done = 0;
     while done < buffer.len() {
