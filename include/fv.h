@@ -4,7 +4,7 @@
  * Each is proved to answer, on every input, what its definition in crates/fv/specs says: 5 for too
  * few bytes, and otherwise what the library's call behind it answers (docs/API.md).
  *
- * `rt staticlib fv` proves and builds target/staticlib/libfv.a: x86-64 code with SSE2, System V
+ * `tests/archive` proves and builds target/staticlib/libfv.a: x86-64 code with SSE2, System V
  * calling convention and its red zone, which wants memcpy, memmove and memset of whom it is linked
  * with.
  *

@@ -50,7 +50,7 @@ def library():
     """The archive that the repository's sources make."""
     if shutil.which("rt") is None:
         fail("rt is not on the PATH")
-    built = subprocess.run(["rt", "staticlib", "fv"], cwd=ROOT, capture_output=True, text=True)
+    built = subprocess.run([ROOT / "tests" / "archive"], cwd=ROOT, capture_output=True, text=True)
     if built.returncode:
         fail("the library is not built\n" + built.stdout + built.stderr)
     return ROOT / "target" / "staticlib" / "libfv.a"

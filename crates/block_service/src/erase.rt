@@ -70,6 +70,7 @@ pub(crate) fn word_at(list: &[u64], tail: &[u8], i: usize) -> u64
 }
 
 // What is said of a list that is bad or not, and that reached a protected block or not: 15 comes after every 2.
+#[tactic(auto, unfolding(crate::specs::Service::refusal_of, common::specs::Refusals::first_refusal))]
 fn list_verdict(bad: bool, reached: bool) -> Check
     ensures { refusal_of result ≡ first_refusal (row bad 2 ∷ row reached 15 ∷ []) }
 {

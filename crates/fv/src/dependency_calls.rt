@@ -16,8 +16,7 @@ const VERSIONS_BYTES: usize = 64;
 
 // The opcode at the start of the bytes: stores it and the place after its operand. The operand is the bytes from 1 up to that place. Refused with 5 (fewer than 16 bytes of
 // answer), 305 (no bytes), 301, 302.
-#[unsafe(no_mangle)]
-pub extern "C" fn fv_read_opcode(opcodes: &[u8], answer: &mut [u8]) -> u32
+pub fn fv_read_opcode(opcodes: &[u8], answer: &mut [u8]) -> u32
     ensures { called result (answer.new ∷ []) ≡ read_opcode_call opcodes.now answer.old }
 {
     if answer.len() < ANSWER_BYTES {
@@ -29,8 +28,7 @@ pub extern "C" fn fv_read_opcode(opcodes: &[u8], answer: &mut [u8]) -> u32
 
 // Stores an opcode and its operand at the start of a room, and how many bytes these are, and 0. What follows the operand is dropped, and the rest of the room stays.
 // Refused with 5 (fewer than 16 bytes of answer), 301, 302, 5 (the room).
-#[unsafe(no_mangle)]
-pub extern "C" fn fv_write_opcode(
+pub fn fv_write_opcode(
     opcode: u8,
     operand: &[u8],
     room: &mut [u8],
@@ -46,8 +44,7 @@ pub extern "C" fn fv_write_opcode(
 }
 
 // Tests an expression up to its end, whatever firmware is installed. Refused with 301 to 305, the first in reading order, at one opcode the lowest.
-#[unsafe(no_mangle)]
-pub extern "C" fn fv_validate_dependency(expression: &[u8]) -> u32
+pub fn fv_validate_dependency(expression: &[u8]) -> u32
     ensures { called result [] ≡ validate_call expression.now }
 {
     let validated = validate(expression);
@@ -59,8 +56,7 @@ pub extern "C" fn fv_validate_dependency(expression: &[u8]) -> u32
 
 // What an expression says of the installed firmware: stores 1 or 0, and 0. The table is 16 GUIDs of 16 bytes and 16 versions, of which the first `used` count. Refused
 // with 5 (fewer than 256 bytes of GUIDs, 64 of versions or 16 of answer), 2 (a used number over sixteen), 301 to 305, 14 (a GUID in no used row).
-#[unsafe(no_mangle)]
-pub extern "C" fn fv_evaluate_dependency(
+pub fn fv_evaluate_dependency(
     expression: &[u8],
     guids: &[u8],
     versions: &[u8],

@@ -12,8 +12,7 @@ const JOB_BYTES: usize = 8;
 
 // Accepts an erase list, lent as bytes as fv_erase has it, and stores its job in the first 8 bytes lent for it. Nothing is stored in the volume. Refused with 5 (fewer than
 // 304 bytes of state or 8 of job), 111 (the state's bytes hold no lawful one), 5 (the volume), 15, 2 (a bad list), 15 (a block of the list is protected).
-#[unsafe(no_mangle)]
-pub extern "C" fn fv_accept_erase(state: &[u8], volume: &[u8], list: &[u8], job: &mut [u8]) -> u32
+pub fn fv_accept_erase(state: &[u8], volume: &[u8], list: &[u8], job: &mut [u8]) -> u32
     ensures { called result (job.new ∷ []) ≡ accept_call state.now volume.now list.now job.old }
 {
     if state.len() < STATE_BYTES {
@@ -35,8 +34,7 @@ pub extern "C" fn fv_accept_erase(state: &[u8], volume: &[u8], list: &[u8], job:
 // Carries a job of the list on by so many byte stores, or by what is left if fewer. Returns 0 where nothing is left then, and otherwise 4, with the job as it now stands in
 // the first 8 bytes of job. Refused with 5 (fewer than 304 bytes of state or 8 of job), 111 (the state's bytes hold no lawful one), 5 (the volume), 15, 2 (a bad list, or a job that this
 // map and list never give), 15 (a block of the list is protected).
-#[unsafe(no_mangle)]
-pub extern "C" fn fv_carry_erase(
+pub fn fv_carry_erase(
     state: &[u8],
     volume: &mut [u8],
     list: &[u8],

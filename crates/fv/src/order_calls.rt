@@ -10,8 +10,7 @@ use write_orders::write_order_bytes;
 // Carries out the orders one after the other, up to the first answer that is not success; they are lent as bytes, 32 to an order: four numbers of 64 bits (block, offset, first
 // byte and length of the stretch of the source). Up to 31 bytes behind the last whole order are ignored. Returns the last answer's number, and stores how many writes succeeded and
 // the last one's count, 0 where it was refused. Refused with 5 (fewer than 304 bytes of state or 16 of answer), which leaves every range; then as `write_orders`.
-#[unsafe(no_mangle)]
-pub extern "C" fn fv_write_list(
+pub fn fv_write_list(
     state: &[u8],
     volume: &mut [u8],
     orders: &[u8],

@@ -10,8 +10,7 @@ use sections::search::{search, search_first};
 
 // The section of a type that has `instance` sections of that type before it: stores first byte and end of its part of the stream. Mode 0 is Framework, any other PI.
 // Refused with 5 (fewer than 16 bytes of answer), then the search's numbers, 201 to 207 and 14.
-#[unsafe(no_mangle)]
-pub extern "C" fn fv_search(
+pub fn fv_search(
     mode: u32,
     stream: &[u8],
     section_type: u8,
@@ -29,8 +28,7 @@ pub extern "C" fn fv_search(
 
 // The first section of a type, without a look at what comes after its own header: stores first byte and end of its part of the stream. Refused with 5 (fewer than 16 bytes of
 // answer), then the search's numbers.
-#[unsafe(no_mangle)]
-pub extern "C" fn fv_search_first(
+pub fn fv_search_first(
     mode: u32,
     stream: &[u8],
     section_type: u8,
@@ -46,8 +44,7 @@ pub extern "C" fn fv_search_first(
 }
 
 // Appends a leaf after the used bytes of a buffer, and stores the new used count and 0. Refused with 5 (fewer than 16 bytes of answer), 2, 202, 206, 5 (the buffer).
-#[unsafe(no_mangle)]
-pub extern "C" fn fv_append(
+pub fn fv_append(
     mode: u32,
     buffer: &mut [u8],
     used: u64,

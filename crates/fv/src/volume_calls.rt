@@ -10,8 +10,7 @@ use volume::{Opening, ext_entry, open_volume};
 
 // Opens a volume at a base address and packs its state into the first 304 bytes lent for it. Refused with 5 (fewer are lent), then opening's numbers, 101 to 110
 // and 112.
-#[unsafe(no_mangle)]
-pub extern "C" fn fv_open(state: &mut [u8], volume: &[u8], base: u64) -> u32
+pub fn fv_open(state: &mut [u8], volume: &[u8], base: u64) -> u32
     ensures { called result (state.new ∷ []) ≡ open_call state.old volume.now base }
 {
     if state.len() < STATE_BYTES {
@@ -28,8 +27,7 @@ pub extern "C" fn fv_open(state: &mut [u8], volume: &[u8], base: u64) -> u32
 
 // Reads from an offset of a block into the start of the buffer, and stores the count and 0. Refused with 5 (fewer than 304 bytes of state or 16 of answer), 111 (they
 // hold no lawful state), 5 (the volume), 15, 2.
-#[unsafe(no_mangle)]
-pub extern "C" fn fv_read(
+pub fn fv_read(
     state: &[u8],
     volume: &[u8],
     block: u64,
@@ -51,8 +49,7 @@ pub extern "C" fn fv_read(
 
 // Writes the new bytes from an offset of a block on, and stores the count and 0. Refused with 5 (fewer than 304 bytes of state or 16 of answer), 111 (they hold no lawful
 // state), 5 (the volume), 15, 2, 15 (the block is protected).
-#[unsafe(no_mangle)]
-pub extern "C" fn fv_write(
+pub fn fv_write(
     state: &[u8],
     volume: &mut [u8],
     block: u64,
@@ -74,8 +71,7 @@ pub extern "C" fn fv_write(
 
 // Erases the blocks that a list names, the list lent as bytes, eight to a word; up to seven bytes behind the last word are ignored. Refused with 5 (fewer than 304
 // bytes of state), 111 (they hold no lawful state), 5 (the volume), 15, 2 (a bad list), 15 (a block of the list is protected).
-#[unsafe(no_mangle)]
-pub extern "C" fn fv_erase(state: &[u8], volume: &mut [u8], list: &[u8]) -> u32
+pub fn fv_erase(state: &[u8], volume: &mut [u8], list: &[u8]) -> u32
     ensures { called result (volume.new ∷ []) ≡ erase_call state.now volume.old list.now }
 {
     if state.len() < STATE_BYTES {
@@ -90,8 +86,7 @@ pub extern "C" fn fv_erase(state: &[u8], volume: &mut [u8], list: &[u8]) -> u32
 
 // The entry of this number, from 0, of a volume's extended header: stores its first byte in the volume, and its size + 65,536 times its type. Refused with 5 (fewer than
 // 16 bytes of answer), opening's numbers at base 0, 14.
-#[unsafe(no_mangle)]
-pub extern "C" fn fv_ext_entry(volume: &[u8], number: u64, answer: &mut [u8]) -> u32
+pub fn fv_ext_entry(volume: &[u8], number: u64, answer: &mut [u8]) -> u32
     ensures { called result (answer.new ∷ []) ≡ entry_call volume.now number answer.old }
 {
     if answer.len() < ANSWER_BYTES {
