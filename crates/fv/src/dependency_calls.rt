@@ -28,12 +28,7 @@ pub fn fv_read_opcode(opcodes: &[u8], answer: &mut [u8]) -> u32
 
 // Stores an opcode and its operand at the start of a room, and how many bytes these are, and 0. What follows the operand is dropped, and the rest of the room stays.
 // Refused with 5 (fewer than 16 bytes of answer), 301, 302, 5 (the room).
-pub fn fv_write_opcode(
-    opcode: u8,
-    operand: &[u8],
-    room: &mut [u8],
-    answer: &mut [u8],
-) -> u32
+pub fn fv_write_opcode(opcode: u8, operand: &[u8], room: &mut [u8], answer: &mut [u8]) -> u32
     ensures { called result (room.new ∷ answer.new ∷ []) ≡ write_opcode_call opcode operand.now room.old answer.old }
 {
     if answer.len() < ANSWER_BYTES {

@@ -28,12 +28,7 @@ pub fn fv_search(
 
 // The first section of a type, without a look at what comes after its own header: stores first byte and end of its part of the stream. Refused with 5 (fewer than 16 bytes of
 // answer), then the search's numbers.
-pub fn fv_search_first(
-    mode: u32,
-    stream: &[u8],
-    section_type: u8,
-    answer: &mut [u8],
-) -> u32
+pub fn fv_search_first(mode: u32, stream: &[u8], section_type: u8, answer: &mut [u8]) -> u32
     ensures { called result (answer.new ∷ []) ≡ search_first_call mode stream.now section_type answer.old }
 {
     if answer.len() < ANSWER_BYTES {
