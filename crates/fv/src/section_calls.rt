@@ -57,6 +57,7 @@ pub fn fv_append(
 }
 
 // The mode that a number stands for.
+#[tactic(auto, unfolding(crate::specs::SectionCalls::mode_of))]
 fn mode_of(mode: u32) -> Mode
     ensures { result ≡ mode_of mode }
 {

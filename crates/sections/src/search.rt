@@ -61,6 +61,7 @@ pub fn stream_limit(mode: Mode) -> usize
 
 // What the walk comes to that passes `left` sections of a type and wants the next one: there it stops or,
 // where `stop` is 0, goes on.
+#[tactic(auto, using(crate::proofs::search::Shown::sought_left))]
 fn sought(mode: Mode, stream: &[u8], want: u8, left: u64, stop: u64) -> Found
     ensures { found_answer result ≡ seek_answer (run want (Left stop left) (stream_walk mode stream.now)) }
 {

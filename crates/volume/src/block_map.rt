@@ -58,6 +58,7 @@ pub(crate) fn all_zero(words: &[u32]) -> bool
 
 // The number of blocks of a state's map: the sum of its entries' counts. The map has room for MAX_ENTRIES entries; a
 // larger number of entries counts those.
+#[tactic(auto, using(crate::proofs::block_map::Words::counted_end))]
 pub fn block_count(entries: usize, map: &[u32; 64]) -> u64
     ensures { result ≡ blocks (take (2 * entries) map.now) }
 {

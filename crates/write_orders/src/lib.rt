@@ -67,6 +67,7 @@ pub fn write_orders(st: State, volume: &mut [u8], orders: &[Order], source: &[u8
 
 // The same with the first `used` orders of an array, for programs in Rattle. Refused with 2 where
 // `used` is more than 64. The array is copied once.
+#[tactic(auto, unfolding(crate::specs::Orders::written_of, crate::specs::Orders::write_array, block_service::specs::Service::moved_answer))]
 pub fn write_order_array(
     st: State,
     volume: &mut [u8],

@@ -1,7 +1,7 @@
 -- What a search shows: the code's answer is the definition's; a part that is shown lies inside the stream; an instance of a type is
 -- found exactly when it is below the number of sections of that type; the first fault, and 14.
 use Prim.Native.Nat.{ℕ, zero, suc, ◌+◌, ◌≤◌, ◌<◌}
-use mathlib.Core.Path.{◌≡◌, refl}
+use mathlib.Core.Path.{◌≡◌, refl, sym}
 use mathlib.Core.Bool.{Bool, true, false, cond}
 use mathlib.Core.List.{List, [], ◌∷◌}
 use mathlib.Core.Logic.{◌↔◌}
@@ -70,6 +70,11 @@ module _ (mode : Mode) where
       → below ≡ 7 → base ≡ 0 → length s ≤ stream_limit mode → seek_answer a ≡ seek_answer (run w (Left stop i) (stream_walk mode s))
   unfolding stream_walk
   sought_walk s w stop i walked l b h = rw (walked, words_start stop i, l, b, le-ltb (stream_limit mode) (length s) h)
+
+  -- what is sought, as the walk through the stream has it
+  pub sought_left : (s : List ℕ) (w stop i : ℕ) → length s ≤ stream_limit mode
+      → seek_answer (run w (Left stop i) (stream_walk mode s)) ≡ seek_answer (run w (carried 0 (i ∷ 0 ∷ 0 ∷ stop ∷ [])) (walk mode 7 s 0))
+  sought_left s w stop i h = sym (sought_walk s w stop i refl refl refl h)
 
   pub search_from : (s : List ℕ) (t instance : ℕ) → seek_answer (run t (Left 0 instance) (stream_walk mode s)) ≡ search_of mode s t instance
   unfolding search_of

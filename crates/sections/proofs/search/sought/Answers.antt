@@ -4,18 +4,11 @@ use native.Mathlib.Omega.{arith}
 use borrow.Author.Rules.{rules}
 use Rattle.sections.specs.Search.{found_answer}
 use Rattle.sections.proofs.search.Shown.{sought_206, sought_walk}
-use Rattle.sections.proofs.walk.Carried.{answer_fault, answer_stopped, answer_whole}
+use Rattle.sections.proofs.walk.Carried.{answer_fault, answer_stopped}
 use Rattle.sections.proofs.search.sought.Goals as goal
 
 pub returns-then-stream_limit-stream : goal.returns-then-stream_limit-stream
 returns-then-stream_limit-stream c = let limit = c.stream_limit.ensures in sought_206 _ _ _ _ _ (omega arith)
-
-pub returns-then-ended-eq0 : goal.returns-then-ended-eq0
-returns-then-ended-eq0 c =
-    let limit = c.stream_limit.ensures in
-    c.at_end.ensures
-    ∙ answer_whole _ (search rules)
-    ∙ sought_walk _ _ _ _ _ c.walk_stream-ended.ensures.1 (search rules) (search rules) (omega arith)
 
 pub returns-then-ended-eq-STOPPED : goal.returns-then-ended-eq-STOPPED
 returns-then-ended-eq-STOPPED c =

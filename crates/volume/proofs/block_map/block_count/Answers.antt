@@ -14,9 +14,6 @@ words l = l.args.map.now
 map-length : (l : At-loop-i) → length (words l) ≡ 64
 map-length l = search rules
 
-pub returns-then-i-ge-MAX_ENTRIES : goal.returns-then-i-ge-MAX_ENTRIES
-returns-then-i-ge-MAX_ENTRIES c = omega (arith, counted_end (words (goal.at.returns-then-i-ge-MAX_ENTRIES c).At-loop-i) (entries (goal.at.returns-then-i-ge-MAX_ENTRIES c).At-loop-i) c.loop-i.i (map-length (goal.at.returns-then-i-ge-MAX_ENTRIES c).At-loop-i) (omega arith))
-
 pub loop-i-preserved : goal.loop-i-preserved
 loop-i-preserved c =
     omega (arith, c.wide-count.ensures.0, counted_entry (words (goal.at.loop-i-preserved c).At-loop-i) (entries (goal.at.loop-i-preserved c).At-loop-i) c.loop-i.i (map-length (goal.at.loop-i-preserved c).At-loop-i) (omega arith) (omega arith))
