@@ -328,7 +328,7 @@ module _ (mode : Mode) (s : List ℕ) (t : ℕ) where
   pub first_inside : (f e : ℕ) → search_first_of mode s t ≡ success (f ∷ e ∷ []) → (f + own_fields t ≤ e) × (e ≤ length s)
   first_inside = first.first_inside mode s t
 
-  -- "without walking the rest": the answer depends on no byte after the match's header, which ends, with a holder's own fields, at byte f + ownFields t
+  -- "without walking the rest": the answer depends on no byte after the match's header, which ends, with a holder's own fields, at byte f + own_fields t
   pub first_stops : (s' : List ℕ) (f e : ℕ) → search_first_of mode s t ≡ success (f ∷ e ∷ []) → length s ≡ length s'
       → ((i : ℕ) → i < f + own_fields t → get_or s i 0 ≡ get_or s' i 0) → search_first_of mode s' t ≡ success (f ∷ e ∷ [])
   first_stops s' = stops.first_stops mode s s' t

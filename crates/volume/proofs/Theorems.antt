@@ -160,7 +160,7 @@ entries_row = Numbered.entries_row
 -- ---- the word sum, line by line (02, d: "one 16-bit accumulator that wraps at each addition")
 
 -- "after each word it holds the true sum so far modulo 65,536": line k of the listing, from 0, of any byte string. That the code's own accumulator does is
--- the invariant of its loop (`Inv-loop`, proofs/header/word_sum)
+-- the invariant of its loop (`invariant-loop-i`, proofs/header/word_sum)
 pub running_sum : (s : List ℕ) (k : ℕ) → k < length (running_sums s) → get_or (running_sums s) k 0 ≡ word_sum (take (2 * (k + 1)) s) % word_modulus
 running_sum = Sums.running_is
 
