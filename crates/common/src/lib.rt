@@ -1,3 +1,6 @@
-// No code: the definitions and laws that the crates above share are in specs/ and proofs/.
-
+// What a call is refused with: one error for all crates. The definitions and laws that they share are in specs/ and proofs/.
 #![tactic(auto)]
+
+pub mod refusal;
+
+pub use crate::refusal::Refusal;
