@@ -1,10 +1,8 @@
--- Laws of a move: of a list that is not the longer one, of one that is as long, and of the front of one that is longer.
-use Prim.Native.Nat.{ℕ, ◌≤◌}
-use mathlib.Core.Path.{◌≡◌, ◌∙◌}
-use mathlib.Core.List.{List, [], ◌++◌, append-nil}
-use native.Mathlib.Omega.{arith}
-use lib.ListN.{length, take, drop, drop_of_length-le}
-use lib.Seq.{length-take-le, take_all, take-length}
+-- Laws of a move: of a list that is not the longer one, of one that is as long, and in the code's form.
+use Rattle.std.proofs.Common.{◌≡◌, ◌∙◌, ℕ, ◌<◌, ◌≤◌, min, ◌⊎◌, inl, inr, List, [], ◌++◌, length, take, drop, arith, drop_of_length-le, take_all}
+use Rattle.std.proofs.Math.Seq.{take-length}
+use mathlib.Core.List.{append-nil}
+use Rattle.std.proofs.lemmas.Bool.{cases_lt}
 use Rattle.moves.specs.Moved.{moved}
 
 -- a list that is not the longer one is moved whole
@@ -18,17 +16,11 @@ moved_same s d e =
     let none : drop (length s) d ≡ [] = drop_of_length-le d {i = length s} (omega arith) in
     moved_all s d (omega arith) ∙ rw none (append-nil s)
 
--- of a longer one the front is moved
-pub moved_front : (s d : List ℕ) → length d ≤ length s → moved (take (length d) s) d ≡ moved s d
+-- as many bytes as both have are moved, and what lies behind them stays
+pub moved_min : (s d : List ℕ) (n : ℕ) {part : List ℕ} → n ≡ min (length s) (length d) → part ≡ take n s → part ++ drop n d ≡ moved s d
 unfolding moved
-moved_front s d h =
-    let n = length-take-le (length d) s h in
-    rw (n, take_all (length d) (take (length d) s) (omega arith), drop_of_length-le d {i = length d} (omega arith), drop_of_length-le d {i = length s} h)
-
--- what a move of a list that is not the longer one leaves, in the form of the code: put over the front, and copied
-module _ (s d : List ℕ) (h : length s ≤ length d) where
-  pub front_moved : {part : List ℕ} → part ≡ s → part ++ drop (length s) d ≡ moved s d
-  front_moved p = rw (p, moved_all s d h)
-
-  pub copied_moved : {after : List ℕ} → after ≡ take (length s) s ++ drop (length s) d → after ≡ moved s d
-  copied_moved e = e ∙ rw (take-length, moved_all s d h)
+moved_min s d n e p = rw p (go (cases_lt (length s) (length d)))
+  where
+    go : (length s < length d) ⊎ (length d ≤ length s) → take n s ++ drop n d ≡ take (length d) s ++ drop (length s) d
+    go (inl h) = let whole : n ≡ length s = omega arith in rw (whole, take-length, take_all (length d) s (omega arith))
+    go (inr h) = let whole : n ≡ length d = omega arith in rw (whole, drop_of_length-le d {i = length d} (omega arith), drop_of_length-le d {i = length s} h)

@@ -1,14 +1,18 @@
 -- Laws of little-endian numbers, each over the width: what reading gives past the end and from one byte more, its bound, what is
 -- read in an appended list, that reading gives back what was stored, and which bytes a store leaves; and numbers of 2, 4 and 8 bytes from their parts.
-use Prim.Native.Nat.{ℕ, zero, suc, ◌+◌, ◌-◌, ◌*◌, ◌/◌, ◌%◌, ◌^◌, ◌≤◌, ◌<◌}
+use Prim.Native.Nat.{min, ℕ, zero, suc, ◌+◌, ◌-◌, ◌*◌, ◌/◌, ◌%◌, ◌^◌, ◌≤◌, ◌<◌}
 use mathlib.Core.Path.{◌≡◌, refl, sym, ap, ap₂, ◌∙◌}
 use mathlib.Core.List.{List, [], ◌∷◌, ◌++◌, append_assoc}
-use native.Mathlib.Nat.{add-zero, zero-add, sub_self, sub-zero, ne_of_lt, ne_of_gt, div-lt_iff_lt-mul, one-le-pow, pow-suc, pow-succ', mul_assoc, pow-le-pow_right}
+use native.Mathlib.Nat.{add-zero, sub-zero, ne_of_lt, ne_of_gt, div-lt_iff_lt-mul, pow-suc}
 use native.Mathlib.Omega.{arith}
 use lib.Dec.{lit<}
-use lib.ListN.{length, get_or, take, drop, set, get_or-eq_default}
+use borrow.Rule.Slice.PartMut.{put_mid}
+use Rattle.std.proofs.Common.{inl, inr}
+use Rattle.std.proofs.lemmas.List.{drop-drop}
+use Rattle.std.proofs.lemmas.Bool.{cases_lt}
+use lib.ListN.{length, get_or, take, drop, set, length-set, get_or-eq_default}
 use lib.Seq.{sets, sets-eq, length-take-le, get_or-append-add, get_or-set_other}
-use Rattle.common.proofs.Lists.{sets_past, sets_next}
+use Rattle.common.proofs.Lists.{sets_past}
 use Rattle.numbers.specs.LittleEndian.{le, le_bytes}
 
 -- past the end every number is 0
@@ -17,47 +21,17 @@ unfolding le
 le_past zero s at h = refl
 le_past (suc n) s at h = rw (get_or-eq_default s 0 h, le_past n s (at + 1) (omega arith))
 
--- from the bytes above place i down to those from place i - 1
-pub le_more : (n : ℕ) (s : List ℕ) (at i : ℕ) → 0 < i → i ≤ n
-    → le (n - (i - 1)) s (at + (i - 1)) ≡ get_or s (at + (i - 1)) 0 + 256 * le (n - i) s (at + i)
-unfolding le
-le_more n s at i p h =
-    let e : n - (i - 1) ≡ suc (n - i) = omega arith in
-    let q : at + (i - 1) + 1 ≡ at + i = omega arith in
-    ap (λ (k : ℕ). le k s (at + (i - 1))) e ∙ ap (λ (k : ℕ). get_or s (at + (i - 1)) 0 + 256 * le (n - i) s k) q
-
-pub le_none : (n : ℕ) (s : List ℕ) (at : ℕ) → le (n - n) s at ≡ 0
-unfolding le
-le_none n s at = rw (sub_self n)
-
-pub le_whole : (n : ℕ) (s : List ℕ) (at : ℕ) → le (n - 0) s (at + 0) ≡ le n s at
-le_whole n s at = rw (sub-zero, add-zero)
-
--- one byte more makes the bound 256 times as large
-pub bound_more : (n i v b : ℕ) → 0 < i → i ≤ n → v < 256 ^ (n - i) → b < 256 → v * 256 + b < 256 ^ (n - (i - 1))
-bound_more n i v b p h hv hb =
-    let e : n - (i - 1) ≡ suc (n - i) = omega arith in
-    rw (e, pow-suc 256 (n - i)) (omega arith)
-
--- a number with a byte still to come fits 64 bits with it
-pub bound_fits : (n i v b : ℕ) → 0 < i → i ≤ n → n ≤ 8 → v < 256 ^ (n - i) → b < 256 → v * 256 + b < 2 ^ 64
-bound_fits n i v b p h k hv hb =
-    let w : 256 ^ (n - i) ≤ 256 ^ 7 = pow-le-pow_right (lit< tt) {i = n - i} {j = 7} (omega arith) in
-    omega arith
-
-pub bound_none : (n : ℕ) → 0 < 256 ^ n
-bound_none n = one-le-pow n 256 (lit< tt)
-
 pub store_whole : (n : ℕ) (l : List ℕ) (at x : ℕ) → sets l at (le_bytes n x) ≡ sets l (at + 0) (le_bytes (n - 0) x)
 store_whole n l at x = rw (sub-zero, add-zero)
 
--- the stores of x's bytes from place i on: they lie past the end, none are left, or the lowest byte of what is left and then the rest
-pub store_past : (n : ℕ) (l : List ℕ) (at i x : ℕ) → length l - at ≤ i → sets l (at + i) (le_bytes (n - i) x) ≡ l
-store_past n l at i x h = sets_past (le_bytes (n - i) x) l (at + i) (omega arith)
-
-pub store_none : (n : ℕ) (l : List ℕ) (at i x : ℕ) → n ≤ i → sets l (at + i) (le_bytes (n - i) x) ≡ l
+-- the stores of x's bytes from place i on: none are left, or what is left lies past the end; or the lowest byte of what is left and then the rest
+pub store_done : (n : ℕ) (l : List ℕ) (at i x : ℕ) → min n (length l - at) ≤ i → sets l (at + i) (le_bytes (n - i) x) ≡ l
 unfolding le_bytes
-store_none n l at i x h = let e : n - i ≡ 0 = omega arith in rw e
+store_done n l at i x h =
+    elim (cases_lt i n) [
+      | inl more ↦ sets_past (le_bytes (n - i) x) l (at + i) (omega arith)
+      | inr done ↦ let e : n - i ≡ 0 = omega arith in rw e
+    ]
 
 pub store_more : (n : ℕ) (whole l : List ℕ) (at i x j low rest : ℕ) → i < n → whole ≡ sets l (at + i) (le_bytes (n - i) x)
     → j ≡ at + i → low ≡ x % 256 → rest ≡ x / 256 → whole ≡ sets (set l j low) (at + (i + 1)) (le_bytes (n - (i + 1)) rest)
@@ -67,10 +41,21 @@ store_more n whole l at i x j low rest h w p q r =
     let next : at + (i + 1) ≡ suc (at + i) = omega arith in
     w ∙ rw (p, q, r, e, next)
 
--- the same of a list's elements
-pub bytes_more : (v whole l : List ℕ) (at i j x : ℕ) → i < length v → whole ≡ sets l (at + i) (drop i v)
-    → j ≡ at + i → x ≡ get_or v i 0 → whole ≡ sets (set l j x) (at + (i + 1)) (drop (i + 1) v)
-bytes_more v whole l at i j x h w p q = w ∙ rw (p, q) (sets_next v l at i h)
+-- of bytes that are stored only those matter that lie in the list
+sets_cut : (v l : List ℕ) (at n : ℕ) → min (length v) (length l - at) ≤ n → sets l at (take n v) ≡ sets l at v
+sets_cut [] l at zero h = refl
+sets_cut [] l at (suc n) h = refl
+sets_cut (x ∷ v) l at zero h = sym (sets_past (x ∷ v) l at (omega arith))
+sets_cut (x ∷ v) l at (suc n) h = sets_cut v (set l at x) (suc at) n (omega (arith, length-set l at x))
+
+-- the front of v put over the part of l from byte `at` on
+pub sets_front : (v l : List ℕ) (at n k : ℕ) {part : List ℕ} → n ≡ min (length v) (length l - at) → at < length l → k ≡ at + n - at → part ≡ take n v
+    → put_mid at k l part ≡ sets l at v
+sets_front v l at n k e h q p =
+    let long : length (take n v) ≡ n = length-take-le n v (omega arith) in
+    let fits : at + length (take n v) ≤ length l = omega arith in
+    let behind : drop k (drop at l) ≡ drop (at + length (take n v)) l = drop-drop k at l ∙ ap (λ (i : ℕ). drop i l) (omega arith) in
+    rw (p, behind) (sym (sym (sets_cut v l at n (omega arith)) ∙ sets-eq (take n v) l at fits ∙ append_assoc (take at l) (take n v) (drop (at + length (take n v)) l)))
 
 -- x takes n bytes
 pub length-le_bytes : (n x : ℕ) → length (le_bytes n x) ≡ n
@@ -151,28 +136,3 @@ le_four s at j k l ej ek el =
     let third : k ≡ at + 1 + 1 = omega arith in
     let fourth : l ≡ at + 1 + 1 + 1 = omega arith in
     rw (ej, third, fourth)
-
--- n bytes and the m after them: the number of the first, and behind it that of the others
-le_split : (n m : ℕ) (s : List ℕ) (at : ℕ) → le (n + m) s at ≡ le n s at + 256 ^ n * le m s (at + n)
-unfolding le
-le_split zero m s at = rw (zero-add m, add-zero at) (omega arith)
-le_split (suc n) m s at =
-    let e : suc n + m ≡ suc (n + m) = omega arith in
-    let next : at + 1 + n ≡ at + suc n = omega arith in
-    let rest : ℕ = le m s (at + suc n) in
-    let grown : 256 ^ suc n * rest ≡ 256 * (256 ^ n * rest) = ap (λ (x : ℕ). x * rest) (pow-succ' 256 n) ∙ mul_assoc 256 (256 ^ n) rest in
-    let more : le (n + m) s (at + 1) ≡ le n s (at + 1) + 256 ^ n * rest = le_split n m s (at + 1) ∙ ap (λ (j : ℕ). le n s (at + 1) + 256 ^ n * le m s j) next in
-    rw e (omega arith)
-
--- a 64-bit number is that of its two halves
-pub le_halves : (s : List ℕ) (at j : ℕ) {low high : ℕ} → low ≡ le 4 s at → high ≡ le 4 s j → j ≡ at + 4 → low + 4294967296 * high ≡ le 8 s at
-le_halves s at j l h e = let whole = le_split 4 4 s at in rw (l, h, e) (omega arith)
-
--- four bytes as one number: modulo 2 ^ 24 it is the number of the first three, by 2 ^ 24 the fourth
-pub word_parts : (s : List ℕ) (at : ℕ) → ((i : ℕ) → get_or s i 0 < 256) → (le 4 s at % 2 ^ 24 ≡ le 3 s at) × (le 4 s at / 2 ^ 24 ≡ get_or s (at + 3) 0)
-unfolding le
-word_parts s at h =
-    let low : le 3 s at < 256 ^ 3 = le_bound 3 s at h in
-    let fourth : ℕ = get_or s (at + 3) 0 in
-    let whole : le 4 s at ≡ le 3 s at + 16777216 * fourth = le_split 3 1 s at ∙ omega arith in
-    (omega arith, omega arith)

@@ -4,7 +4,7 @@
 // the end is not stored. The crates above rest on these contracts alone.
 #![tactic(auto)]
 
-ghost use Rattle.std.specs.Prelude.{[], ◌∷◌, ◌≡◌, ◌+◌, ◌/◌, ◌%◌, ◌<◌, ◌≤◌, ◌^◌, length, get_or};
+ghost use Rattle.std.specs.Prelude.{[], ◌∷◌, ℕ, ◌≡◌, ◌+◌, ◌<◌, ◌^◌, get_or};
 ghost use Rattle.std.proofs.lemmas.List.Edits.{sets};
 ghost use Rattle.numbers.specs.LittleEndian.{le, le_bytes};
 
@@ -12,166 +12,121 @@ ghost use Rattle.numbers.specs.LittleEndian.{le, le_bytes};
 pub fn byte_at(s: &[u8], at: usize) -> u8
     ensures { result ≡ get_or s.now at 0 }
 {
-    if at < s.len() { s[at] } else { 0 }
+    s.get(at).copied().unwrap_or(0)
+}
+
+// The N bytes from a place on.
+fn bytes_at<const N: usize>(s: &[u8], at: usize) -> [u8; N]
+    ensures { (i : ℕ) → i < N → get_or result i 0 ≡ get_or s.now (at + i) 0 }
+{
+    let rest = if at < s.len() { &s[at..] } else { &[] };
+    if let Some(bytes) = rest.first_chunk() {
+        return *bytes;
+    }
+    let mut bytes = [0; N];
+    bytes[..rest.len()].copy_from_slice(rest);
+    bytes
 }
 
 // The 16-bit number at a place. Where its bytes are all there it is one load; so are the 32-bit and the 64-bit number.
+#[tactic(auto, unfolding(crate::specs::LittleEndian::le))]
 pub fn u16_at(s: &[u8], at: usize) -> u16
     ensures { result ≡ le 2 s.now at }
 {
-    if s.len() <= at {
-        return 0;
-    }
-    if s.len() - at < 2 {
-        return number_at(s, at, 2) as u16;
-    }
-    u16_of(s[at], s[at + 1])
+    let [a, b] = bytes_at::<2>(s, at);
+    u16_of(a, b)
 }
 
 // The 24-bit number at a place; it stays below 2 ^ 24.
+#[tactic(auto, unfolding(crate::specs::LittleEndian::le))]
 pub fn u24_at(s: &[u8], at: usize) -> u32
     ensures { (result ≡ le 3 s.now at) × (result < 2 ^ 24) }
 {
-    number_at(s, at, 3) as u32
+    let [a, b, c] = bytes_at::<3>(s, at);
+    u32_of(a, b, c, 0)
 }
 
 // A 24-bit number, and the byte after it.
-#[derive(Clone, Copy)]
+#[derive(Clone, Copy, Debug, PartialEq, Eq)]
 pub struct U24Byte {
     pub number: u32,
     pub byte: u8,
 }
 
-// 2 ^ 24 and 2 ^ 32.
-const U24_END: u32 = 16_777_216;
-
-const U32_END: u64 = 4_294_967_296;
-
 // The 24-bit number at a place and the byte after it, as a section's size and type stand. Where the 4 bytes are there it is one load.
+#[tactic(auto, unfolding(crate::specs::LittleEndian::le))]
 pub fn u24_byte_at(s: &[u8], at: usize) -> U24Byte
     ensures { (result.number ≡ le 3 s.now at) × (result.byte ≡ get_or s.now (at + 3) 0) × (result.number < 2 ^ 24) }
 {
-    if s.len() <= at {
-        return U24Byte { number: 0, byte: 0 };
-    }
-    if s.len() - at < 4 {
-        return U24Byte {
-            number: u24_at(s, at),
-            byte: byte_at(s, at + 3),
-        };
-    }
-    let word = word_at(s, at);
+    let [a, b, c, byte] = bytes_at::<4>(s, at);
     U24Byte {
-        number: word % U24_END,
-        byte: (word / U24_END) as u8,
+        number: u32_of(a, b, c, 0),
+        byte,
     }
 }
 
 // The 32-bit number at a place.
+#[tactic(auto, unfolding(crate::specs::LittleEndian::le))]
 pub fn u32_at(s: &[u8], at: usize) -> u32
     ensures { result ≡ le 4 s.now at }
 {
-    if s.len() <= at {
-        return 0;
-    }
-    if s.len() - at < 4 {
-        return number_at(s, at, 4) as u32;
-    }
-    word_at(s, at)
+    let [a, b, c, d] = bytes_at::<4>(s, at);
+    u32_of(a, b, c, d)
 }
 
 // The 64-bit number at a place.
+#[tactic(auto, unfolding(crate::specs::LittleEndian::le))]
 pub fn u64_at(s: &[u8], at: usize) -> u64
     ensures { result ≡ le 8 s.now at }
 {
-    if s.len() <= at {
-        return 0;
-    }
-    if s.len() - at < 8 {
-        return number_at(s, at, 8);
-    }
-    wide(word_at(s, at)) + U32_END * wide(word_at(s, at + 4))
+    let [a, b, c, d, e, f, g, h] = bytes_at::<8>(s, at);
+    u64::from(u32_of(a, b, c, d)) + U32_END * u64::from(u32_of(e, f, g, h))
 }
 
+// 2 ^ 32.
+const U32_END: u64 = 1 << 32;
+
 // The 16-bit number of two bytes, the lowest first.
+#[tactic(auto, unfolding(crate::specs::LittleEndian::le))]
 pub fn u16_of(a: u8, b: u8) -> u16
     ensures { result ≡ le 2 (a ∷ b ∷ []) 0 }
 {
-    a as u16 + 256 * (b as u16)
+    u16::from_le_bytes([a, b])
 }
 
-// The 32-bit number of four bytes, the lowest first. The sum is written flat: nested, as a + 256 * (b + ..), bytes that stand in a row
-// become three loads and not one.
+// The 32-bit number of four bytes, the lowest first.
+#[tactic(auto, unfolding(crate::specs::LittleEndian::le))]
 pub fn u32_of(a: u8, b: u8, c: u8, d: u8) -> u32
     ensures { result ≡ le 4 (a ∷ b ∷ c ∷ d ∷ []) 0 }
 {
-    a as u32 + 256 * (b as u32) + 65_536 * (c as u32) + U24_END * (d as u32)
+    u32::from_le_bytes([a, b, c, d])
 }
 
 // A 32-bit number as a 64-bit one. It stays below 2 ^ 32, so that a product of two such fits.
 pub fn wide(x: u32) -> u64
     ensures { (result ≡ x) × (result < 2 ^ 32) }
 {
-    x as u64
+    u64::from(x)
 }
 
 // Stores the lowest `width` bytes of x, the lowest first, from a place on. Every other byte stays.
 pub fn store(s: &mut [u8], at: usize, width: usize, x: u64)
     ensures { s.new ≡ sets s.old at (le_bytes width x) }
 {
-    if s.len() <= at {
-        return;
-    }
     let mut rest = x;
-    let mut i = 0;
-    while i < width {
-        if s.len() - at <= i {
-            return;
-        }
+    for i in 0..width.min(s.len().saturating_sub(at)) {
         s[at + i] = (rest % 256) as u8;
-        rest = rest / 256;
-        i += 1;
+        rest /= 256;
     }
 }
 
 // Stores bytes from a place on. Every other byte stays.
+#[tactic(auto, using(crate::proofs::LittleEndian::sets_front, common::proofs::Lists::sets_past))]
 pub fn store_bytes(s: &mut [u8], at: usize, src: &[u8])
     ensures { s.new ≡ sets s.old at src.now }
 {
-    if s.len() <= at {
-        return;
+    if at < s.len() {
+        let n = src.len().min(s.len() - at);
+        s[at..at + n].copy_from_slice(&src[..n]);
     }
-    let mut i = 0;
-    while i < src.len() {
-        if s.len() - at <= i {
-            return;
-        }
-        s[at + i] = src[i];
-        i += 1;
-    }
-}
-
-// The number in the `width` bytes from a place on, from the highest byte down.
-fn number_at(s: &[u8], at: usize, width: usize) -> u64
-    requires { width ≤ 8 }
-    ensures { (result ≡ le width s.now at) × (result < 256 ^ width) }
-{
-    if s.len() <= at {
-        return 0;
-    }
-    let mut value: u64 = 0;
-    let mut i = width;
-    while 0 < i {
-        i -= 1;
-        value = value * 256 + byte_at(s, at + i) as u64;
-    }
-    value
-}
-
-// The 32-bit number at a place where its bytes are all there; its lowest three bytes, and the fourth.
-fn word_at(s: &[u8], at: usize) -> u32
-    requires { at + 4 ≤ length s.now }
-    ensures { (result ≡ le 4 s.now at) × (result % 2 ^ 24 ≡ le 3 s.now at) × (result / 2 ^ 24 ≡ get_or s.now (at + 3) 0) }
-{
-    u32_of(s[at], s[at + 1], s[at + 2], s[at + 3])
 }
