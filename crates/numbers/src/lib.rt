@@ -4,7 +4,7 @@
 // the end is not stored. The crates above rest on these contracts alone.
 #![tactic(auto)]
 
-ghost use Rattle.std.specs.Prelude.{[], ◌∷◌, ℕ, ◌≡◌, ◌+◌, ◌<◌, ◌^◌, get_or};
+ghost use Rattle.std.specs.Prelude.{[], ◌∷◌, ℕ, ◌≡◌, ◌+◌, ◌<◌, ◌^◌, get_or, length};
 ghost use Rattle.std.proofs.lemmas.List.Edits.{sets};
 ghost use Rattle.numbers.specs.LittleEndian.{le, le_bytes};
 
@@ -19,10 +19,22 @@ pub fn byte_at(s: &[u8], at: usize) -> u8
 fn bytes_at<const N: usize>(s: &[u8], at: usize) -> [u8; N]
     ensures { (i : ℕ) → i < N → get_or result i 0 ≡ get_or s.now (at + i) 0 }
 {
-    let rest = if at < s.len() { &s[at..] } else { &[] };
-    if let Some(bytes) = rest.first_chunk() {
-        return *bytes;
+    if at < s.len() {
+        let rest = &s[at..];
+        return match rest.first_chunk() {
+            Some(bytes) => *bytes,
+            None => padded(rest),
+        };
     }
+    [0; N]
+}
+
+// Too few bytes, and zeros behind them. Rare, and kept out of the way of the load.
+#[cold]
+fn padded<const N: usize>(rest: &[u8]) -> [u8; N]
+    requires { length rest.now < N }
+    ensures { (i : ℕ) → i < N → get_or result i 0 ≡ get_or rest.now i 0 }
+{
     let mut bytes = [0; N];
     bytes[..rest.len()].copy_from_slice(rest);
     bytes
