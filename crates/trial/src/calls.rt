@@ -1,12 +1,13 @@
 // The cases of the block service: a run of calls over one volume.
-use crate::headers::state_fields;
-use crate::print::{begin, change_fields, end, field};
-use crate::script::{item, least, long_words_of, number, prefix, prepare, words_of};
+use crate::headers::{NO_STATE, state_fields};
+use crate::print::{begin, change_fields, end, field, fields, refusal_field};
+use crate::script::{item, number, prefix, prepare, words_of};
 use block_service::{
-    Address, BlockSize, Erased, Moved, Protection, Settings, erase_blocks, get_attributes,
-    get_block_size, get_physical_address, protect_blocks, read, set_attributes, write,
+    BlockSize, Moved, Words, erase_blocks, get_attributes, get_block_size, get_physical_address,
+    protect_blocks, read, set_attributes, write,
 };
-use numbers::{store_bytes, u32_at};
+use common::Refusal;
+use numbers::{store_bytes, u32_at, u64_at};
 use std::io;
 use volume::{State, open_volume};
 
@@ -16,18 +17,17 @@ pub(crate) fn run_case(out: &impl Print, case: &[u8]) -> io::Result<()> {
     let mut volume = [0u8; 4096];
     prepare(item(case, 4), item(case, 5), &mut volume);
     let mut before = [0u8; 4096];
-    let st = first_state(case, &volume);
-    run(out, case, st, &mut volume, &mut before)
+    let state = first_state(case, &volume);
+    run(out, case, state, &mut volume, &mut before)
 }
 
 fn first_state(case: &[u8], volume: &[u8]) -> State {
     let given = item(case, 6);
-    if 0 < given.len() {
+    if !given.is_empty() {
         return given_state(given);
     }
-    let opened = open_volume(prefix(volume, number(case, 2) as usize), number(case, 3));
-    let st = opened.state;
-    st
+    let lent = prefix(volume, number(case, 2) as usize);
+    open_volume(lent, number(case, 3)).unwrap_or(NO_STATE)
 }
 
 // A state as the script gives it: GUID, length, attributes, base, edition, first protected block, entries, map words.
@@ -35,7 +35,7 @@ fn given_state(given: &[u8]) -> State {
     let mut guid = [0u8; 16];
     store_bytes(&mut guid, 0, item(given, 0));
     let mut map = [0u32; 64];
-    words_of(item(given, 7), &mut map);
+    words_of(item(given, 7), 4, |bytes| u32_at(bytes, 0), &mut map);
     State {
         guid,
         length: number(given, 1),
@@ -57,13 +57,11 @@ fn run(
     before: &mut [u8],
 ) -> io::Result<()> {
     let calls = item(case, 7);
-    let n = number(calls, 0);
-    let mut st = first;
-    let mut k = 0;
-    while k < n {
-        k += 1;
+    let mut state = first;
+    for k in 0..number(calls, 0) {
         store_bytes(before, 0, volume);
-        st = one_call(out, case, item(calls, k as usize), st, volume)?;
+        let call = item(calls, (k as usize).wrapping_add(1));
+        one_call(out, case, call, &mut state, volume)?;
         change_fields(out, before, volume)?;
         end(out)?;
     }
@@ -75,104 +73,68 @@ fn one_call(
     out: &impl Print,
     case: &[u8],
     call: &[u8],
-    st: State,
+    state: &mut State,
     volume: &mut [u8],
-) -> io::Result<State> {
-    let called = number(call, 0);
-    match called {
-        0 => settings_call(out, case, st)?,
-        1 => return set_call(out, case, call, st),
-        2 => address_call(out, case, st)?,
-        3 => size_call(out, case, call, st)?,
-        4 => read_call(out, case, call, st, volume)?,
-        5 => write_call(out, case, call, st, volume)?,
-        6 => erase_call(out, case, call, st, volume)?,
-        _ => return protect_call(out, case, call, st),
-    }
-    Ok(st)
-}
-
-fn settings_call(out: &impl Print, case: &[u8], st: State) -> io::Result<()> {
-    begin(out, case, b"get attributes")?;
-    settings_fields(out, get_attributes(st))
-}
-
-fn settings_fields(out: &impl Print, answer: Settings) -> io::Result<()> {
-    match answer {
-        Settings::Success(x) => {
-            field(out, 0)?;
-            field(out, x as u64)?;
+) -> io::Result<()> {
+    match number(call, 0) {
+        0 => {
+            begin(out, case, "get attributes")?;
+            answer_fields(out, get_attributes(state).map(u64::from))
         }
-        Settings::Refused(no) => field(out, no as u64)?,
+        1 => {
+            begin(out, case, "set attributes")?;
+            let set = set_attributes(state, u32_at(item(call, 1), 0));
+            answer_fields(out, set.map(u64::from))?;
+            state_fields(out, state)
+        }
+        2 => {
+            begin(out, case, "get physical address")?;
+            answer_fields(out, get_physical_address(state))
+        }
+        3 => size_call(out, case, call, state),
+        4 => read_call(out, case, call, state, volume),
+        5 => write_call(out, case, call, state, volume),
+        6 => erase_call(out, case, call, state, volume),
+        _ => {
+            begin(out, case, "protect blocks")?;
+            field(out, number(call, 1))?;
+            done_field(out, protect_blocks(state, number(call, 1)))?;
+            state_fields(out, state)
+        }
     }
-    Ok(())
 }
 
-fn set_call(out: &impl Print, case: &[u8], call: &[u8], st: State) -> io::Result<State> {
-    begin(out, case, b"set attributes")?;
-    let set = set_attributes(st, u32_at(item(call, 1), 0));
-    let answer = set.answer;
-    settings_fields(out, answer)?;
-    let after = set.state;
-    state_fields(out, after)?;
-    Ok(after)
+// 0 and the value, or the refusal.
+fn answer_fields(out: &impl Print, answer: Result<u64, Refusal>) -> io::Result<()> {
+    match answer {
+        Ok(x) => fields(out, &[0, x]),
+        Err(refusal) => refusal_field(out, refusal),
+    }
 }
 
-fn protect_call(out: &impl Print, case: &[u8], call: &[u8], st: State) -> io::Result<State> {
-    begin(out, case, b"protect blocks")?;
+// 0, or the refusal.
+fn done_field(out: &impl Print, answer: Result<(), Refusal>) -> io::Result<()> {
+    match answer {
+        Ok(()) => field(out, 0),
+        Err(refusal) => refusal_field(out, refusal),
+    }
+}
+
+fn size_call(out: &impl Print, case: &[u8], call: &[u8], state: &State) -> io::Result<()> {
+    begin(out, case, "get block size")?;
     field(out, number(call, 1))?;
-    let set = protect_blocks(st, number(call, 1));
-    let answer = set.answer;
-    match answer {
-        Protection::Success => field(out, 0)?,
-        Protection::Refused(no) => field(out, no as u64)?,
+    match get_block_size(state, number(call, 1)) {
+        Ok(BlockSize { length, count }) => fields(out, &[0, length as u64, count as u64]),
+        Err(refusal) => refusal_field(out, refusal),
     }
-    let after = set.state;
-    state_fields(out, after)?;
-    Ok(after)
 }
 
-fn address_call(out: &impl Print, case: &[u8], st: State) -> io::Result<()> {
-    begin(out, case, b"get physical address")?;
-    let answer = get_physical_address(st);
+fn moved_fields(out: &impl Print, answer: Result<Moved, Refusal>) -> io::Result<()> {
     match answer {
-        Address::Success(x) => {
-            field(out, 0)?;
-            field(out, x)?;
-        }
-        Address::Refused(no) => field(out, no as u64)?,
+        Ok(Moved::All(count)) => fields(out, &[0, count as u64]),
+        Ok(Moved::Short(count)) => fields(out, &[4, count as u64]),
+        Err(refusal) => refusal_field(out, refusal),
     }
-    Ok(())
-}
-
-fn size_call(out: &impl Print, case: &[u8], call: &[u8], st: State) -> io::Result<()> {
-    begin(out, case, b"get block size")?;
-    field(out, number(call, 1))?;
-    let answer = get_block_size(st, number(call, 1));
-    match answer {
-        BlockSize::Success { length, count } => {
-            field(out, 0)?;
-            field(out, length as u64)?;
-            field(out, count as u64)?;
-        }
-        BlockSize::Refused(no) => field(out, no as u64)?,
-    }
-    Ok(())
-}
-
-fn moved_fields(out: &impl Print, answer: Moved) -> io::Result<()> {
-    match answer {
-        Moved::Success(count) => {
-            field(out, 0)?;
-            field(out, count as u64)?;
-        }
-        Moved::Short(count) => {
-            field(out, 4)?;
-            field(out, count as u64)?;
-        }
-        Moved::Refused(no) => field(out, no as u64)?,
-    }
-    Ok(())
 }
 
 // A read: the lent length, block, offset, the buffer's bytes before.
@@ -180,43 +142,20 @@ fn read_call(
     out: &impl Print,
     case: &[u8],
     call: &[u8],
-    st: State,
+    state: &State,
     volume: &[u8],
 ) -> io::Result<()> {
-    let mut buffer = [0u8; 1024];
-    store_bytes(&mut buffer, 0, item(call, 4));
-    begin(out, case, b"read")?;
-    read_in(
-        out,
-        call,
-        st,
-        prefix(volume, number(call, 1) as usize),
-        &mut buffer,
-    )
-}
-
-fn read_in(
-    out: &impl Print,
-    call: &[u8],
-    st: State,
-    volume: &[u8],
-    buffer: &mut [u8],
-) -> io::Result<()> {
-    let n = least(item(call, 4).len(), buffer.len());
-    field(out, number(call, 2))?;
-    field(out, number(call, 3))?;
-    field(out, n as u64)?;
-    moved_fields(
-        out,
-        read(
-            st,
-            volume,
-            number(call, 2),
-            number(call, 3) as usize,
-            &mut buffer[..n],
-        ),
-    )?;
-    change_fields(out, item(call, 4), prefix(buffer, n))
+    let mut room = [0u8; 1024];
+    let given = item(call, 4);
+    store_bytes(&mut room, 0, given);
+    let n = given.len().min(1024);
+    let buffer = &mut room[..n];
+    let lent = prefix(volume, number(call, 1) as usize);
+    let (block, offset) = (number(call, 2), number(call, 3));
+    begin(out, case, "read")?;
+    fields(out, &[block, offset, n as u64])?;
+    moved_fields(out, read(state, lent, block, offset as usize, buffer))?;
+    change_fields(out, given, buffer)
 }
 
 // A write: the lent length, block, offset, the data.
@@ -224,24 +163,17 @@ fn write_call(
     out: &impl Print,
     case: &[u8],
     call: &[u8],
-    st: State,
+    state: &State,
     volume: &mut [u8],
 ) -> io::Result<()> {
-    let n = least(number(call, 1) as usize, volume.len());
+    let n = volume.len().min(number(call, 1) as usize);
     let data = item(call, 4);
-    begin(out, case, b"write")?;
-    field(out, number(call, 2))?;
-    field(out, number(call, 3))?;
-    field(out, data.len() as u64)?;
+    let (block, offset) = (number(call, 2), number(call, 3));
+    begin(out, case, "write")?;
+    fields(out, &[block, offset, data.len() as u64])?;
     moved_fields(
         out,
-        write(
-            st,
-            &mut volume[..n],
-            number(call, 2),
-            number(call, 3) as usize,
-            data,
-        ),
+        write(state, &mut volume[..n], block, offset as usize, data),
     )
 }
 
@@ -250,29 +182,18 @@ fn erase_call(
     out: &impl Print,
     case: &[u8],
     call: &[u8],
-    st: State,
+    state: &State,
     volume: &mut [u8],
 ) -> io::Result<()> {
     let mut words = [0u64; 96];
-    long_words_of(item(call, 2), &mut words);
-    begin(out, case, b"erase blocks")?;
-    erase_in(out, call, st, volume, &words)
-}
-
-fn erase_in(
-    out: &impl Print,
-    call: &[u8],
-    st: State,
-    volume: &mut [u8],
-    words: &[u64],
-) -> io::Result<()> {
-    let n = least(number(call, 1) as usize, volume.len());
-    let k = least(item(call, 2).len() / 8, words.len());
-    field(out, k as u64)?;
-    let answer = erase_blocks(st, &mut volume[..n], &words[..k]);
-    match answer {
-        Erased::Success => field(out, 0)?,
-        Erased::Refused(no) => field(out, no as u64)?,
-    }
-    Ok(())
+    let given = item(call, 2);
+    words_of(given, 8, |bytes| u64_at(bytes, 0), &mut words);
+    let n = volume.len().min(number(call, 1) as usize);
+    let k = words.len().min(given.len() / 8);
+    begin(out, case, "erase blocks")?;
+    field(out, k)?;
+    done_field(
+        out,
+        erase_blocks(state, &mut volume[..n], &Words(&words[..k])),
+    )
 }

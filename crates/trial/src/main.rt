@@ -13,8 +13,9 @@ mod streams;
 use crate::calls::run_case;
 use crate::headers::{entry_case, list_case, open_case, sum_case, write_case, write_pi_case};
 use crate::portions::receive_case;
-use crate::script::{item, number, prefix, read_full};
+use crate::script::{item, number};
 use crate::streams::{append_case, first_case, search_case};
+use input::read_full;
 use std::io;
 
 // The most bytes of a script.
@@ -22,45 +23,31 @@ const SCRIPT: usize = 1376256;
 
 fn main(rt: HostRuntime) -> io::Result<()> {
     let mut input = [0u8; SCRIPT];
-    run_input(&rt, &mut input)
-}
-
-// Proofs take an array that is lent by its length alone; one of the function's own they write out, byte by byte.
-fn run_input(rt: &(impl Input + Print), input: &mut [u8; SCRIPT]) -> io::Result<()> {
-    run_read(rt, input)
-}
-
-fn run_read(rt: &(impl Input + Print), input: &mut [u8]) -> io::Result<()> {
-    let n = read_full(&mut rt.reader(), input)?;
-    run_script(rt, prefix(input, n))
+    let n = read_full(&mut rt.reader(), &mut input)?;
+    run_script(&rt, &input[..n])
 }
 
 // A script is a list: the number of cases, then the cases.
 fn run_script(out: &impl Print, script: &[u8]) -> io::Result<()> {
-    let cases = number(script, 0);
-    let mut k = 0;
-    while k < cases {
-        k += 1;
-        one_case(out, item(script, k as usize))?;
+    for k in 0..number(script, 0) {
+        one_case(out, item(script, (k as usize).wrapping_add(1)))?;
     }
     Ok(())
 }
 
 // A case is a list: its name, what is called, and the arguments.
 fn one_case(out: &impl Print, case: &[u8]) -> io::Result<()> {
-    let called = number(case, 1);
-    match called {
-        0 => open_case(out, case)?,
-        1 => write_case(out, case)?,
-        2 => list_case(out, case)?,
-        3 => run_case(out, case)?,
-        4 => search_case(out, case)?,
-        5 => append_case(out, case)?,
-        6 => sum_case(out, case)?,
-        7 => write_pi_case(out, case)?,
-        8 => entry_case(out, case)?,
-        10 => receive_case(out, case)?,
-        _ => first_case(out, case)?,
+    match number(case, 1) {
+        0 => open_case(out, case),
+        1 => write_case(out, case),
+        2 => list_case(out, case),
+        3 => run_case(out, case),
+        4 => search_case(out, case),
+        5 => append_case(out, case),
+        6 => sum_case(out, case),
+        7 => write_pi_case(out, case),
+        8 => entry_case(out, case),
+        10 => receive_case(out, case),
+        _ => first_case(out, case),
     }
-    Ok(())
 }
