@@ -1,6 +1,6 @@
 -- The header of one section (002, "Section Layout"; 01, "Sections"; 02, i): its fields, its faults and what it opens.
 -- A stream is a list of bytes; a byte past its end counts as 0.
-use Rattle.std.specs.Prelude.{ℕ, ◌+◌, ◌-◌, ◌%◌, ◌≤◌, ◌<◌, ◌^◌, ◌≡◌, Bool, true, false, cond, not, ◌&&◌, ◌||◌, List, [], ◌∷◌, ◌++◌, eqb, ltb, length, get_or, Option, Some, None, Result, Ok, Err}
+use Rattle.std.specs.Prelude.{ℕ, ◌+◌, ◌-◌, ◌%◌, ◌≤◌, ◌<◌, ◌^◌, ◌≡◌, Bool, true, false, cond, not, ◌&&◌, ◌||◌, List, [], ◌∷◌, ◌++◌, eqb, ltb, length, get_or, Option, Some, None, IfSome, Result, Ok, Err}
 use Rattle.common.specs.Refusal.{number}
 use Rattle.common.specs.Refusals.{Row, row, first_refusal, unless_refused}
 use Rattle.common.specs.declared.refusal.Refusal.{Refusal}
@@ -188,3 +188,10 @@ pub record Lies (s : List ℕ) (at : ℕ) (x : Header) (n : ℕ) : Type 0 where
   pub least : grown x.length n ≤ x.size
   pub fields : at + grown x.length n ≤ length s
   pub bound : at + x.size < 2 ^ 64
+
+-- a section that was read lies after the start, inside its stream, and its contents inside it
+pub record IsWithin (s : List ℕ) (at : ℕ) (x : Section) : Type 0 where
+  pub after : at + common_header ≤ x.first
+  pub shown : x.first ≤ x.end
+  pub inside : x.end ≤ length s
+  pub contents : IfSome x.contents (λ from. from ≤ x.end)

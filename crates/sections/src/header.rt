@@ -1,6 +1,6 @@
 // Reading the header of the section at one start.
-ghost use Rattle.std.specs.Prelude.{◌≡◌, cond, ◌+◌, ◌≤◌, ◌<◌, ◌^◌, length};
-ghost use Rattle.sections.specs.Header.{size_of, sized_at, head_of, head_at};
+ghost use Rattle.std.specs.Prelude.{◌≡◌, cond, ◌+◌, ◌≤◌, ◌<◌, ◌^◌, length, IfOk};
+ghost use Rattle.sections.specs.Header.{size_of, sized_at, head_of, head_at, IsWithin};
 
 use crate::types::{
     COMMON_HEADER, COMPRESSION_HEADER, Class, GUID_DEFINED_HEADER, SECTION_COMPRESSION,
@@ -127,7 +127,8 @@ pub(crate) struct Header {
 // The section at a start where bytes are left, or the first of its faults 201 to 204.
 pub(crate) fn read_section(mode: Mode, s: &[u8], at: usize) -> Result<Section, Refusal>
     requires { at < length s.now }
-    ensures { head_of result ≡ head_at mode s.now at }
+    ensures read { head_of result ≡ head_at mode s.now at }
+    ensures within { IfOk result (IsWithin s.now at) }
 {
     let header = read_header(mode, s, at, s.len() - at)?;
     header.section(s, at)
