@@ -35,7 +35,7 @@ returns-then-is_some-clause-walked t c =
 deep : (t : ℕ) (c : After-visit-stopped t) → is_some c.in_ok-section.section.contents ≡ true → c.args.below ≡ 0 → ⊥
 deep t c some zero =
     elim c.else-below-eq0.branch [
-      else-below-eq0-via-then-below-eq0+else-is_some w ↦ false≢true (w.if-is_some.ensures ∙ some)
+      | else-below-eq0-via-then-below-eq0+else-is_some w ↦ false≢true (w.if-is_some.ensures ∙ some)
       | else-below-eq0-via-else-below-eq0 w ↦ w.if-below-eq0.false zero
     ]
 
@@ -81,7 +81,7 @@ joined : (t : ℕ) (c : After-next_start t) → (c.match-section.wanted.section_
 joined t c =
     let kept = c.visit-stopped.ensures.same ∙ c.loop-at.invariant.same in
     elim c.match-section.branch [
-      in-Some+in_ok-inner+else-is_some-3 w ↦
+      | in-Some+in_ok-inner+else-is_some-3 w ↦
           rw (w.wanted-is, w.in-Some.is)
           (w.in_ok-inner.ensures.same ∙ kept, sym (carried_on _ w.walk_stream.new.wanted (sym w.if-is_some-3.ensures)) ∙ rw kept at w.in_ok-inner.ensures.walked)
       | in_default w ↦ rw w.wanted-is (kept, no_inner _ _ _ _ _ _ _ _ w.in_default.not-Some)

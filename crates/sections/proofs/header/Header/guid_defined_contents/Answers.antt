@@ -13,7 +13,7 @@ pub returns-then-offset-grown : goal.returns-then-offset-grown
 returns-then-offset-grown c =
     let told = c.u16_of-offset.ensures ∙ le_two c.args.s.now _ _ (omega arith) in
     elim c.then-offset-grown.branch [
-      then-offset-grown-via-then-offset-grown w ↦ rw c.requires.1 (guid_204_low _ _ _ _ told (search rules))
+      | then-offset-grown-via-then-offset-grown w ↦ rw c.requires.1 (guid_204_low _ _ _ _ told (search rules))
       | then-offset-grown-via-else-offset-grown+then-self-offset w ↦ rw c.requires.1 (guid_204_high _ _ _ _ told (search rules) (search rules))
     ]
 

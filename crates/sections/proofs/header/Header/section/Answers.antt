@@ -29,7 +29,7 @@ returns-in_err-contents-in-2 c =
 pub returns : goal.returns
 returns c =
     elim c.match-self.branch [
-      in-1+in_ok-contents-in-1 w ↦ rw w.contents-is (past_holder _ _ _ (holds-compression _ w.in-1.is) w.in_ok-contents-in-1.ensures)
+      | in-1+in_ok-contents-in-1 w ↦ rw w.contents-is (past_holder _ _ _ (holds-compression _ w.in-1.is) w.in_ok-contents-in-1.ensures)
       | in-2+in_ok-contents-in-2 w ↦ rw w.contents-is (past_holder _ _ _ (holds_guid _ w.in-2.is) w.in_ok-contents-in-2.ensures)
       | in_default w ↦ rw w.contents-is (past_leaf _ _ _ (not_holder _ (ne_eqb _ _ (search rules)) (ne_eqb _ _ (search rules))))
     ]
