@@ -244,7 +244,8 @@ impl Header {
     {
         let fields = at + self.length;
         let offset = numbers::u16_of(s[fields + DATA_OFFSET], s[fields + DATA_OFFSET + 1]) as usize;
-        if offset < self.grown(GUID_DEFINED_HEADER) || self.size < offset {
+        let own = self.grown(GUID_DEFINED_HEADER);
+        if offset < own || self.size < offset {
             return Err(Refusal::WrongContents);
         }
         let attributes = numbers::u16_of(s[fields + ATTRIBUTES], s[fields + ATTRIBUTES + 1]);

@@ -24,19 +24,24 @@ pub(crate) struct Wanted {
 impl Wanted {
     ghost use Rattle.sections.specs.Seek.{visited, carried};
 
+    // At a section of a stream that starts at byte `base` of the outer one: its part, where the walk stops there.
     #[tactic(auto, unfolding(crate::specs::Seek::visited), using(crate::proofs::walk::Carried::visit_other, crate::proofs::walk::Carried::visit_after))]
-    // At a section of a type that shows a part: that part, where the walk stops there.
-    fn visit(&mut self, section_type: u8, part: Part) -> Option<Part>
+    fn visit(&mut self, section: &Section, base: usize) -> Option<Part>
+        requires { (base + section.now.first < 2 ^ 64) × (base + section.now.end < 2 ^ 64) }
         ensures same { self.new.section_type ≡ self.old.section_type }
-        ensures visited { carried result self.new ≡ visited self.old.section_type (carried None self.old) section_type part.first part.end }
+        ensures visited { carried result self.new ≡ visited self.old.section_type (carried None self.old) section.now.section_type (base + section.now.first) (base + section.now.end) }
     {
-        if section_type != self.section_type || self.found.is_some() {
+        if section.section_type != self.section_type || self.found.is_some() {
             return None;
         }
         if self.left > 0 {
             self.left -= 1;
             return None;
         }
+        let part = Part {
+            first: base + section.first,
+            end: base + section.end,
+        };
         if self.stops {
             return Some(part);
         }
@@ -67,11 +72,7 @@ pub(crate) fn walk_stream(
         if below == 0 && section.contents.is_some() {
             return Err(Refusal::TooDeep);
         }
-        let part = Part {
-            first: base + section.first,
-            end: base + section.end,
-        };
-        let stopped = wanted.visit(section.section_type, part); // a holder before its children
+        let stopped = wanted.visit(&section, base); // a holder before its children
         if stopped.is_some() {
             return Ok(stopped);
         }
