@@ -13,7 +13,7 @@ use Rattle.sections.specs.Types.{compression, guid_defined, type_info}
 use Rattle.sections.specs.Header.{header_length, size_at, type_at, grown, least_size, unpacked_length, compression_kind, data_offset, attributes, is_holder}
 use Rattle.sections.specs.Header.{contents_at, packed, wrong_contents, section_of, section_at, head_at, holder_of}
 use Rattle.sections.specs.declared.header.Mode.{Mode}
-use Rattle.sections.specs.declared.header.Head.TheVariants.{Fault, Closed, Open}
+use Rattle.sections.specs.Header.{Fault, Closed, Open}
 use Rattle.sections.proofs.types.Rows.{both, not_holder, holder_guid, holds-compression, holds_guid}
 use Rattle.sections.proofs.header.Sizes.{Fits, header_range}
 use Rattle.sections.proofs.header.Sizes as sizes
@@ -229,7 +229,7 @@ module _ (mode : Mode) (s : List ℕ) (at : ℕ) where
       as_guid = rw typed at (tests.head_holder mode s at f (holds_guid t typed))
 
       pub guid_open : attributes s (at + h) % 2 ≡ 0 → head_at mode s at ≡ Open guid_defined (at + h) (at + data_offset s (at + h)) (at + z)
-      guid_open clear = as_guid ∙ sym (tests.guid_open _ _ _ _ _ (holds_guid guid_defined refl) (λ e. omega arith) refl low high (λ e. omega arith) refl refl refl)
+      guid_open clear = as_guid ∙ sym (tests.guid_open _ _ _ _ refl low high (λ e. omega arith) refl refl refl)
 
       pub guid_closed : attributes s (at + h) % 2 ≡ 1 → head_at mode s at ≡ Closed guid_defined (at + h) (at + z)
-      guid_closed set = as_guid ∙ sym (tests.guid_packed _ _ _ _ _ (holds_guid guid_defined refl) (λ e. omega arith) refl low high set refl refl)
+      guid_closed set = as_guid ∙ sym (tests.guid_packed _ _ _ _ refl low high set refl refl)

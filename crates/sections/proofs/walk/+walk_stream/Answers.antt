@@ -1,178 +1,111 @@
--- `walk_stream` meets its contract. The levels fall at each call, and what is left of the stream at each turn.
---
--- `closed` and `opened` are what is known where the header is that of such a section.
-use mathlib.Core.Path.{sym, ◌∙◌}
+-- `walk_stream` meets its contract, turn by turn.
+use Prim.Native.Nat.{ℕ, ◌+◌, ◌-◌}
+use mathlib.Core.Path.{◌≡◌, refl, sym, ◌∙◌}
+use mathlib.Core.Bool.{true, false}
 use native.Mathlib.Omega.{arith}
 use borrow.Author.Rules.{rules}
-use Rattle.sections.proofs.header.Cases.{fault_number_lem}
-use Rattle.sections.proofs.header.Extent.{closed_within, open_within}
-use Rattle.sections.proofs.walk.Carried.{ended, carried_fault}
-use Rattle.sections.proofs.walk.Turns.{going_start, going_end, turn_fault, turn_closed_stop, turn_closed_end, turn_closed, turn_closed_207, turn_205, turn_open_stop}
-use Rattle.sections.proofs.walk.Turns.{turn_children, turn_open_end, turn_open_next, turn_open_207}
+use Rattle.std.specs.Prelude.{None}
+use Rattle.std.specs.Option.{is_some}
+use Rattle.std.proofs.lemmas.Bool.{false≢true}
+use Rattle.std.proofs.lemmas.Result.{err_from_is_err_and}
+use Rattle.sections.specs.Seek.{visited, run, carried, walked}
+use Rattle.sections.proofs.walk.Carried.{carried_fault, ended_refused, ended_carried, carried_on}
+use Rattle.sections.proofs.walk.Turns.{inner, no_inner, going_start, going_end, turn_fault, turn_205, turn_stop, turn_children, turn_next, turn_207}
 use Rattle.sections.proofs.walk.+walk_stream.Goals as goal
+use Rattle.sections.proofs.walk.+walk_stream.Goals.{After-visit-stopped, After-walk_stream, After-next_start}
+use Rattle.sections.proofs.walk.+walk_stream.Goals.{else-below-eq0-via-then-below-eq0+else-is_some, else-below-eq0-via-else-below-eq0}
+use Rattle.sections.proofs.walk.+walk_stream.Goals.{in-Some+in_ok-inner+else-is_some-3, in_default}
 
 pub loop-at-init : goal.loop-at-init
-loop-at-init t c = (c.requires.1, going_start _ _ _ _ _ _)
+loop-at-init t c = record { same = refl; going = going_start _ _ _ _ _ _ }
 
-pub returns-in-Fault : goal.returns-in-Fault
-returns-in-Fault t c =
-    let head = sym c.read_head-head.ensures ∙ c.in-Fault.is in
-    (c.loop-at.invariant.0, turn_fault _ c.loop-at.invariant.1 c.loop-at-test.true head (carried_fault _ _ (fault_number_lem _ _ _ _ head)))
+pub returns-in_err-section-clause-walked : goal.returns-in_err-section-clause-walked
+returns-in_err-section-clause-walked t c =
+    let p = err_from_is_err_and c.from_residual.result c.from_residual.ensures.1 in
+    rw (p.1, p.2)
+    (carried_fault _ c.loop-at.wanted ∙ turn_fault _ c.loop-at.invariant.going c.loop-at-test.true c.in_err-section.ensures.read)
 
-pub overflow_add-base : goal.overflow_add-base
-overflow_add-base t c =
-    let w = closed_within _ _ _ (sym c.read_head-head.ensures ∙ c.in-Closed.is) in
-    omega arith
+pub returns-then-is_some-clause-walked : goal.returns-then-is_some-clause-walked
+returns-then-is_some-clause-walked t c =
+    carried_fault _ c.loop-at.wanted
+    ∙ turn_205 _ c.loop-at.invariant.going c.loop-at-test.true c.in_ok-section.section c.in_ok-section.ensures.read
+    (sym c.if-is_some.ensures) c.if-below-eq0.true
 
-pub overflow_add-base-in-Closed : goal.overflow_add-base-in-Closed
-overflow_add-base-in-Closed t c =
-    let w = closed_within _ _ _ (sym c.read_head-head.ensures ∙ c.in-Closed.is) in
-    omega arith
+-- contents that are searched lie on no ninth level
+deep : (t : ℕ) (c : After-visit-stopped t) → is_some c.in_ok-section.section.contents ≡ true → c.args.below ≡ 0 → ⊥
+deep t c some zero =
+    elim c.else-below-eq0.branch [
+      | else-below-eq0-via-then-below-eq0+else-is_some w ↦ false≢true (w.if-is_some.ensures ∙ some)
+      | else-below-eq0-via-else-below-eq0 w ↦ w.if-below-eq0.false zero
+    ]
 
-pub visit-requires : goal.visit-requires
-visit-requires t c =
-    let w = closed_within _ _ _ (sym c.read_head-head.ensures ∙ c.in-Closed.is) in
-    (omega arith, c.loop-at.invariant.0)
+-- what the section does
+shown : (t : ℕ) (c : After-visit-stopped t) → carried c.visit-stopped.result c.visit-stopped.new.self
+    ≡ visited c.args.wanted.now.section_type (carried None c.loop-at.wanted) c.in_ok-section.section.section_type
+    (c.args.base + c.in_ok-section.section.first) (c.args.base + c.in_ok-section.section.end)
+shown t c = rw c.loop-at.invariant.same at c.visit-stopped.ensures.visited
 
-pub returns-then-visit : goal.returns-then-visit
-returns-then-visit t c = (
-  c.visit.ensures.0,
-  turn_closed_stop _ c.loop-at.invariant.1 c.loop-at-test.true (sym c.read_head-head.ensures ∙ c.in-Closed.is)
-      (rw c.if-visit.true at c.visit.ensures.1) (search rules) (search rules) (ended _ _ _ (λ z. omega arith)),
-)
+on : (t : ℕ) (c : After-visit-stopped t) → is_some c.visit-stopped.result ≡ false → carried None c.visit-stopped.new.self
+    ≡ visited c.args.wanted.now.section_type (carried None c.loop-at.wanted) c.in_ok-section.section.section_type
+    (c.args.base + c.in_ok-section.section.first) (c.args.base + c.in_ok-section.section.end)
+on t c h = sym (carried_on _ c.visit-stopped.new.self h) ∙ shown t c
 
-pub returns-then-s-end : goal.returns-then-s-end
-returns-then-s-end t c = (
-  c.visit.ensures.0,
-  turn_closed_end _ c.loop-at.invariant.1 c.loop-at-test.true (sym c.read_head-head.ensures ∙ c.in-Closed.is)
-      (rw c.if-visit.false at c.visit.ensures.1) (search rules) (search rules) (search rules),
-)
+pub returns-then-is_some-2-clause-walked : goal.returns-then-is_some-2-clause-walked
+returns-then-is_some-2-clause-walked t c =
+    let v = (goal.at.returns-then-is_some-2-clause-walked t c).After-visit-stopped in
+    turn_stop _ c.loop-at.invariant.going c.loop-at-test.true c.in_ok-section.section c.in_ok-section.ensures.read (deep _ v) (shown _ v)
+    (ended_carried _ _ _ (sym c.if-is_some-2.ensures))
 
-pub aligned-next-requires : goal.aligned-next-requires
-aligned-next-requires t c =
-    let w = closed_within _ _ _ (sym c.read_head-head.ensures ∙ c.in-Closed.is) in
-    omega arith
+same : (t : ℕ) (c : After-visit-stopped t) → c.visit-stopped.new.self.section_type ≡ c.args.wanted.now.section_type
+same t c = c.visit-stopped.ensures.same ∙ c.loop-at.invariant.same
 
-pub returns-then-not-zero_bytes : goal.returns-then-not-zero_bytes
-returns-then-not-zero_bytes t c = (
-  c.visit.ensures.0,
-  turn_closed_207 _ c.loop-at.invariant.1 c.loop-at-test.true (sym c.read_head-head.ensures ∙ c.in-Closed.is)
-      (rw c.if-visit.false at c.visit.ensures.1) (search rules) (search rules) c.aligned-next.ensures
-      (sym c.zero_bytes.ensures ∙ c.if-not-zero_bytes.true) (carried_fault _ _ (omega arith)),
-)
+pub returns-in_err-inner-clause-walked : goal.returns-in_err-inner-clause-walked
+returns-in_err-inner-clause-walked t c =
+    let v = (goal.at.returns-in_err-inner-clause-walked t c).After-visit-stopped in
+    let p = err_from_is_err_and c.from_residual-in_err-inner.result c.from_residual-in_err-inner.ensures.1 in
+    rw (p.1, p.2)
+    (turn_children _ c.loop-at.invariant.going c.loop-at-test.true c.in_ok-section.section c.in_ok-section.ensures.read (deep _ v) (on _ v (sym c.if-is_some-2.ensures))
+    (rw (c.in-Some.is) (rw (same _ v) at c.in_err-inner.ensures.walked)) (ended_refused _ _))
 
-pub loop-at-smaller-in-Closed : goal.loop-at-smaller-in-Closed
-loop-at-smaller-in-Closed t c =
-    let w = closed_within _ _ _ (sym c.read_head-head.ensures ∙ c.in-Closed.is) in
-    let up = c.aligned-next.ensures in
-    omega arith
+pub returns-then-is_some-3-clause-walked : goal.returns-then-is_some-3-clause-walked
+returns-then-is_some-3-clause-walked t c =
+    let v = (goal.at.returns-then-is_some-3-clause-walked t c).After-visit-stopped in
+    turn_children _ c.loop-at.invariant.going c.loop-at-test.true c.in_ok-section.section c.in_ok-section.ensures.read (deep _ v) (on _ v (sym c.if-is_some-2.ensures))
+    (rw (c.in-Some.is) (rw (same _ v) at c.in_ok-inner.ensures.walked)) (ended_carried _ _ _ (sym c.if-is_some-3.ensures))
 
-pub loop-at-preserved-in-Closed : goal.loop-at-preserved-in-Closed
-loop-at-preserved-in-Closed t c = (
-  c.visit.ensures.0,
-  turn_closed _ c.loop-at.invariant.1 c.loop-at-test.true (sym c.read_head-head.ensures ∙ c.in-Closed.is)
-      (rw c.if-visit.false at c.visit.ensures.1) (search rules) (search rules) c.aligned-next.ensures
-      (sym c.zero_bytes.ensures ∙ c.if-not-zero_bytes.false),
-)
+-- after the children, where there are any
+joined : (t : ℕ) (c : After-next_start t) → (c.match-section.wanted.section_type ≡ c.args.wanted.now.section_type)
+    × (carried None c.match-section.wanted
+    ≡ run c.args.wanted.now.section_type (carried None c.visit-stopped.new.self)
+    (inner c.args.mode c.args.below c.args.s.now c.args.base c.in_ok-section.section.end c.in_ok-section.section.contents))
+joined t c =
+    let kept = c.visit-stopped.ensures.same ∙ c.loop-at.invariant.same in
+    elim c.match-section.branch [
+      | in-Some+in_ok-inner+else-is_some-3 w ↦
+          rw (w.wanted-is, w.in-Some.is)
+          (w.in_ok-inner.ensures.same ∙ kept, sym (carried_on _ w.walk_stream.new.wanted (sym w.if-is_some-3.ensures)) ∙ rw kept at w.in_ok-inner.ensures.walked)
+      | in_default w ↦ rw w.wanted-is (kept, no_inner _ _ _ _ _ _ _ _ w.in_default.not-Some)
+    ]
 
-pub returns-then-below-eq0 : goal.returns-then-below-eq0
-returns-then-below-eq0 t c = (
-  c.loop-at.invariant.0,
-  turn_205 _ c.loop-at.invariant.1 c.loop-at-test.true (sym c.read_head-head.ensures ∙ c.in-Open.is) (search rules)
-      (carried_fault _ _ (omega arith)),
-)
-
-pub overflow_add-base-in-Open : goal.overflow_add-base-in-Open
-overflow_add-base-in-Open t c =
-    let w = open_within _ _ _ (sym c.read_head-head.ensures ∙ c.in-Open.is) in
-    omega arith
-
-pub overflow_add-base-in-Open-2 : goal.overflow_add-base-in-Open-2
-overflow_add-base-in-Open-2 t c =
-    let w = open_within _ _ _ (sym c.read_head-head.ensures ∙ c.in-Open.is) in
-    omega arith
-
-pub visit-requires-in-Open : goal.visit-requires-in-Open
-visit-requires-in-Open t c =
-    let w = open_within _ _ _ (sym c.read_head-head.ensures ∙ c.in-Open.is) in
-    (omega arith, c.loop-at.invariant.0)
-
-pub returns-then-visit-2 : goal.returns-then-visit-2
-returns-then-visit-2 t c = (
-  c.visit-in-Open.ensures.0,
-  turn_open_stop _ c.loop-at.invariant.1 c.loop-at-test.true (sym c.read_head-head.ensures ∙ c.in-Open.is) c.if-below-eq0.false
-      (rw c.if-visit-2.true at c.visit-in-Open.ensures.1) (search rules) (search rules) (ended _ _ _ (λ z. omega arith)),
-)
-
-pub slice_bounds-walk_stream-count : goal.slice_bounds-walk_stream-count
-slice_bounds-walk_stream-count t c =
-    let w = open_within _ _ _ (sym c.read_head-head.ensures ∙ c.in-Open.is) in
-    omega arith
-
-pub slice_bounds-walk_stream-start : goal.slice_bounds-walk_stream-start
-slice_bounds-walk_stream-start t c =
-    let w = open_within _ _ _ (sym c.read_head-head.ensures ∙ c.in-Open.is) in
-    omega arith
-
-pub slice_bounds-walk_stream-end : goal.slice_bounds-walk_stream-end
-slice_bounds-walk_stream-end t c =
-    let w = open_within _ _ _ (sym c.read_head-head.ensures ∙ c.in-Open.is) in
-    omega arith
-
-pub overflow_add-base-in-Open-3 : goal.overflow_add-base-in-Open-3
-overflow_add-base-in-Open-3 t c =
-    let w = open_within _ _ _ (sym c.read_head-head.ensures ∙ c.in-Open.is) in
-    omega arith
-
-pub walk_stream-inner-requires : goal.walk_stream-inner-requires
-walk_stream-inner-requires t c =
-    let w = open_within _ _ _ (sym c.read_head-head.ensures ∙ c.in-Open.is) in
-    (omega arith, (omega arith, c.visit-in-Open.ensures.0))
-
-pub returns-then-inner-ne0 : goal.returns-then-inner-ne0
-returns-then-inner-ne0 t c = (
-  c.walk_stream-inner.ensures.0,
-  turn_children _ c.loop-at.invariant.1 c.loop-at-test.true (sym c.read_head-head.ensures ∙ c.in-Open.is) c.if-below-eq0.false
-      (rw c.if-visit-2.false at c.visit-in-Open.ensures.1) (search rules) (search rules) c.walk_stream-inner.ensures.1
-      (search rules) (search rules) (ended _ _ _ c.if-inner-ne0.true),
-)
-
-pub returns-then-s-end-2 : goal.returns-then-s-end-2
-returns-then-s-end-2 t c = (
-  c.walk_stream-inner.ensures.0,
-  turn_open_end _ c.loop-at.invariant.1 c.loop-at-test.true (sym c.read_head-head.ensures ∙ c.in-Open.is) c.if-below-eq0.false
-      (rw c.if-visit-2.false at c.visit-in-Open.ensures.1) (search rules) (search rules)
-      (rw c.if-inner-ne0.false at c.walk_stream-inner.ensures.1) (search rules) (search rules) (search rules),
-)
-
-pub aligned-next-requires-in-Open : goal.aligned-next-requires-in-Open
-aligned-next-requires-in-Open t c =
-    let w = open_within _ _ _ (sym c.read_head-head.ensures ∙ c.in-Open.is) in
-    omega arith
-
-pub returns-then-not-zero_bytes-2 : goal.returns-then-not-zero_bytes-2
-returns-then-not-zero_bytes-2 t c = (
-  c.walk_stream-inner.ensures.0,
-  turn_open_207 _ c.loop-at.invariant.1 c.loop-at-test.true (sym c.read_head-head.ensures ∙ c.in-Open.is) c.if-below-eq0.false
-      (rw c.if-visit-2.false at c.visit-in-Open.ensures.1) (search rules) (search rules)
-      (rw c.if-inner-ne0.false at c.walk_stream-inner.ensures.1) (search rules) (search rules) c.aligned-next-in-Open.ensures
-      (sym c.zero_bytes-in-Open.ensures ∙ c.if-not-zero_bytes-2.true) (carried_fault _ _ (omega arith)),
-)
-
-pub loop-at-smaller : goal.loop-at-smaller
-loop-at-smaller t c =
-    let w = open_within _ _ _ (sym c.read_head-head.ensures ∙ c.in-Open.is) in
-    let up = c.aligned-next-in-Open.ensures in
-    omega arith
+pub returns-in_err-at-clause-walked : goal.returns-in_err-at-clause-walked
+returns-in_err-at-clause-walked t c =
+    let j = joined _ (goal.at.returns-in_err-at-clause-walked t c).After-next_start in
+    let v = (goal.at.returns-in_err-at-clause-walked t c).After-visit-stopped in
+    let p = err_from_is_err_and c.from_residual-in_err-at.result c.from_residual-in_err-at.ensures.1 in
+    rw (p.1, p.2, c.in_err-at.ensures.0)
+    (carried_fault _ c.match-section.wanted
+    ∙ turn_207 _ c.loop-at.invariant.going c.loop-at-test.true c.in_ok-section.section c.in_ok-section.ensures.read (deep _ v) (on _ v (sym c.if-is_some-2.ensures))
+    j.1 c.in_err-at.ensures.1)
 
 pub loop-at-preserved : goal.loop-at-preserved
-loop-at-preserved t c = (
-  c.walk_stream-inner.ensures.0,
-  turn_open_next _ c.loop-at.invariant.1 c.loop-at-test.true (sym c.read_head-head.ensures ∙ c.in-Open.is) c.if-below-eq0.false
-      (rw c.if-visit-2.false at c.visit-in-Open.ensures.1) (search rules) (search rules)
-      (rw c.if-inner-ne0.false at c.walk_stream-inner.ensures.1) (search rules) (search rules) c.aligned-next-in-Open.ensures
-      (sym c.zero_bytes-in-Open.ensures ∙ c.if-not-zero_bytes-2.false),
-)
+loop-at-preserved t c =
+    let j = joined _ (goal.at.loop-at-preserved t c).After-next_start in
+    let v = (goal.at.loop-at-preserved t c).After-visit-stopped in
+    record {
+      same = j.0;
+      going = turn_next _ c.loop-at.invariant.going c.loop-at-test.true c.in_ok-section.section c.in_ok-section.ensures.read (deep _ v)
+          (on _ v (sym c.if-is_some-2.ensures)) j.1 c.in_ok-at.ensures.0 c.in_ok-at.ensures.1;
+    }
 
-pub returns : goal.returns
-returns t c = (c.loop-at.invariant.0, going_end _ c.loop-at.invariant.1 c.loop-at-test.false)
+pub returns-clause-walked : goal.returns-clause-walked
+returns-clause-walked t c = going_end _ c.loop-at.invariant.going c.loop-at-test.false

@@ -2,7 +2,7 @@
 use mathlib.Core.Path.{sym}
 use native.Mathlib.Omega.{arith}
 use Rattle.sections.proofs.append.Refusals.{append_long, append_short, append_framework}
-use Rattle.sections.proofs.append.leaf_header.Goals as goal
+use Rattle.sections.proofs.header.Mode.leaf_header.Goals as goal
 
 pub returns-then-m : goal.returns-then-m
 returns-then-m c = rw c.in-Pi.is (sym (append_short _ (omega arith)))
