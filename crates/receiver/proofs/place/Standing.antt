@@ -9,11 +9,9 @@ use Rattle.sections.specs.declared.header.Mode.{Mode}
 use Rattle.sections.specs.declared.header.Head.TheVariants.{Fault}
 use Rattle.sections.proofs.partial.Views.{says_201, needed_three}
 use Rattle.sections.proofs.walk.Starts.{walk_from, walk_end, walk_fault}
-use Rattle.receiver.specs.Place.{placed, started, arrived, padding}
+use Rattle.receiver.specs.Place.{placed, started, arrived, padding, Header, Body, Padding, Complete, Refused, Place}
 use Rattle.receiver.specs.Received.{found_after, found_fault}
 use Rattle.receiver.specs.Tally.{wrapped}
-use Rattle.receiver.specs.declared.place.Phase.TheVariants.{Header, Body, Padding, Complete, Refused}
-use Rattle.receiver.specs.declared.place.Place.{Place}
 use Rattle.receiver.proofs.place.Padded.{InFile, padded, padded_zero, after_padded, padding_end, next_start}
 
 -- a section that was entered: the stream that holds it, where that starts in the file, and the section's end in it

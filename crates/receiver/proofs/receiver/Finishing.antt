@@ -16,11 +16,9 @@ use Rattle.sections.proofs.header.Sizes.{header_range}
 use Rattle.sections.proofs.partial.Agree.{needed_left}
 use Rattle.sections.proofs.walk.Starts.{walk_from, walk-from_start, walk_fault, walk_closed, walk_205, walk_open}
 use Rattle.receiver.specs.Received.{found_after, found_fault}
-use Rattle.receiver.specs.Receiver.{no_tally, finish_at, found_in}
-use Rattle.receiver.specs.declared.place.Phase.{Phase}
-use Rattle.receiver.specs.declared.place.Phase.TheVariants.{Complete, Refused}
-use Rattle.receiver.specs.declared.receiver.Receiver.{Receiver}
-use Rattle.receiver.specs.declared.tally.Tally.{Tally}
+use Rattle.receiver.specs.Receiver.{no_tally, finish_at, found_in, Receiver}
+use Rattle.receiver.specs.Place.{Phase, Complete, Refused}
+use Rattle.receiver.specs.Tally.{Tally}
 use Rattle.receiver.proofs.receiver.Heads.{needed_by, as_head, due, due_205}
 use Rattle.receiver.proofs.receiver.Late.{Behind, behind_then, behind_less, behind_padding, behind_from, late}
 use Rattle.receiver.proofs.place.Padded.{InFile, padded}

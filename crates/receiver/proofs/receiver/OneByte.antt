@@ -17,15 +17,10 @@ use Rattle.sections.proofs.partial.Agree.{moved as later, needed_left}
 use Rattle.sections.proofs.partial.Views.{part_is, needed_most}
 use Rattle.sections.proofs.walk.Parts.{part_in}
 use Rattle.sections.proofs.walk.Starts.{walk_from, walk-from_start, walk_fault, walk_closed, walk_205, walk_open}
-use Rattle.receiver.specs.Place.{with_phase, arrived, entered}
+use Rattle.receiver.specs.Place.{with_phase, arrived, entered, Phase, Header, Body, Padding, Refused, Place}
 use Rattle.receiver.specs.Received.{found_after, found_fault}
-use Rattle.receiver.specs.Receiver.{moved, at_place, waiting, refused, met, looked, passed, padding_step, stepped}
-use Rattle.receiver.specs.Tally.{wrapped, visited}
-use Rattle.receiver.specs.declared.place.Phase.{Phase}
-use Rattle.receiver.specs.declared.place.Phase.TheVariants.{Header, Body, Padding, Refused}
-use Rattle.receiver.specs.declared.place.Place.{Place}
-use Rattle.receiver.specs.declared.receiver.Receiver.{Receiver}
-use Rattle.receiver.specs.declared.tally.Tally.{Tally}
+use Rattle.receiver.specs.Receiver.{moved, at_place, waiting, refused, met, looked, passed, padding_step, stepped, Receiver}
+use Rattle.receiver.specs.Tally.{wrapped, visited, Tally}
 use Rattle.receiver.proofs.place.Entering.{enter}
 use Rattle.receiver.proofs.receiver.Heads.{needed_by, as_head, due, due_205, forward, backward}
 use Rattle.receiver.proofs.place.Padded.{InFile, padded, padded_zero, padded_more, padded_207}

@@ -10,12 +10,8 @@ use Rattle.sections.specs.declared.partial.Partial.{Partial}
 use Rattle.sections.proofs.types.Rows.{both}
 use Rattle.sections.proofs.partial.Views.{part_is, needed_most}
 use Rattle.receiver.specs.Tally.{wrapped}
-use Rattle.receiver.specs.Place.{placed, with_phase, started, arrived, padding, entered}
-use Rattle.receiver.specs.Receiver.{looked, met, refused, passed, padding_step, stepped, have_of, sound}
-use Rattle.receiver.specs.declared.place.Phase.{Phase}
-use Rattle.receiver.specs.declared.place.Phase.TheVariants.{Header, Body, Padding, Complete, Exceeded, Refused}
-use Rattle.receiver.specs.declared.place.Place.{Place}
-use Rattle.receiver.specs.declared.receiver.Receiver.{Receiver}
+use Rattle.receiver.specs.Place.{placed, with_phase, started, arrived, onwards, padding, entered, Phase, Header, Body, Padding, Complete, Exceeded, Refused, Place}
+use Rattle.receiver.specs.Receiver.{looked, met, refused, passed, padding_step, stepped, have_of, sound, Receiver}
 
 -- as two facts
 abbrev pub Fits : Place → Type 0
@@ -67,7 +63,7 @@ arrived_fits d at left lefts pads few = let f = arrived_fresh lefts pads d at le
 
 module _ (p : Place) where
   abbrev there : Place
-  there = arrived p.depth p.at p.left p.lefts p.pads
+  there = onwards p
 
   pub there_fits : p.depth ≤ 8 → Fits there
   there_fits = arrived_fits p.depth p.at p.left p.lefts p.pads

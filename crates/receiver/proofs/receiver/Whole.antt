@@ -15,12 +15,9 @@ use Rattle.sections.proofs.header.Sizes.{header_range}
 use Rattle.sections.proofs.partial.Views.{needed_most, part_finds, part_is}
 use Rattle.sections.proofs.partial.Agree.{moved, agree}
 use Rattle.receiver.specs.Tally.{wrapped}
-use Rattle.receiver.specs.Place.{with_phase, entered}
-use Rattle.receiver.specs.Receiver.{receiver, waiting, refused, met, looked, stepped, fed}
+use Rattle.receiver.specs.Place.{with_phase, entered, Phase, Header}
+use Rattle.receiver.specs.Receiver.{receiver, waiting, refused, met, looked, stepped, fed, Receiver}
 use Rattle.receiver.specs.Steps.{header_bytes}
-use Rattle.receiver.specs.declared.place.Phase.{Phase}
-use Rattle.receiver.specs.declared.place.Phase.TheVariants.{Header}
-use Rattle.receiver.specs.declared.receiver.Receiver.{Receiver}
 use Rattle.receiver.proofs.receiver.Fed.{fed-step, fed-refused}
 
 -- what the longest header at the start of the bytes says
