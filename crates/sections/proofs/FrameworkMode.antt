@@ -21,8 +21,7 @@ use Rattle.sections.specs.Walk.{Trace, done, fault, section, and_then, aligned, 
 use Rattle.sections.specs.Search.{Section, sections, first_fault, of_type, part_answer, search_of}
 use Rattle.sections.specs.Append.{needs_long, leaf_header, leaf_start, added_with, append_refusals, append_of, buffer_after}
 use Rattle.sections.specs.declared.header.Mode.TheVariants.{Framework}
-use Rattle.sections.specs.declared.header.Head.{Head}
-use Rattle.sections.specs.declared.header.Head.TheVariants.{Fault, Closed, Open}
+use Rattle.sections.specs.Header.{Head, Fault, Closed, Open}
 
 -- the header
 abbrev size_at₁ : List ℕ → ℕ → ℕ

@@ -22,8 +22,8 @@ use Rattle.sections.specs.declared.header.Mode.{Mode}
 use Rattle.sections.specs.declared.header.Mode.TheVariants.{Framework, Pi}
 use Rattle.sections.specs.declared.types.TypeName.TheVariants.{Unknown}
 use Rattle.sections.specs.declared.types.Class.TheVariants.{PlainLeaf}
-use Rattle.sections.specs.declared.header.Head.TheVariants.{Fault, Closed, Open}
-use Rattle.sections.specs.declared.partial.Partial.TheVariants.{Waiting}
+use Rattle.sections.specs.Header.{Fault, Closed, Open}
+use Rattle.sections.specs.Partial.{Waiting}
 use Rattle.sections.proofs.FrameworkMode as framework
 use Rattle.sections.proofs.types.Rows as rows
 use Rattle.sections.proofs.header.Sizes as sizes

@@ -1,15 +1,15 @@
 -- Appending a leaf to a section stream (01, "Sections"; 02, i): the refusals, the answer, the bytes that are written and the buffer
 -- afterwards.
-use Rattle.std.specs.Prelude.{ℕ, ◌+◌, ◌-◌, Bool, cond, not, ◌&&◌, List, [], ◌∷◌, ◌++◌, eqb, leb, ltb, length, take, drop, replicate}
+use Rattle.std.specs.Prelude.{ℕ, ◌+◌, ◌-◌, Bool, cond, not, ◌&&◌, List, [], ◌∷◌, ◌++◌, eqb, leb, ltb, length, take, drop, replicate, Result, Ok, Err}
 use Rattle.common.specs.Answers.{Answer, refused, success}
+use Rattle.common.specs.Refusal.{number}
 use Rattle.common.specs.Refusals.{Row, row, first_refusal, unless_refused}
+use Rattle.common.specs.declared.refusal.Refusal.{Refusal}
 use Rattle.numbers.specs.LittleEndian.{le_bytes}
 use Rattle.sections.specs.Types.{compression, guid_defined, common_header, type_info}
 use Rattle.sections.specs.Header.{is_pi, largest_field, long_header}
 use Rattle.sections.specs.Walk.{aligned, stream_limit}
 use Rattle.sections.specs.declared.header.Mode.{Mode}
-use Rattle.sections.specs.declared.append.Appended.{Appended}
-use Rattle.sections.specs.declared.append.Appended.TheVariants.{Used, Refused}
 
 -- the size of a leaf with a body of m bytes and a short header
 abbrev pub short_size : ℕ → ℕ
@@ -66,7 +66,7 @@ buffer_after mode buffer used section_type body =
     unless_refused (λ n. buffer) (first_refusal (append_refusals mode (length buffer) used section_type (length body)))
     (take used buffer ++ added mode used section_type body ++ drop (used_after mode used (length body)) buffer)
 
--- what the code's `Appended` answers: the new used count, or the refusal
-abbrev pub appended_answer : Appended → Answer
-appended_answer (Used count) = success (count ∷ [])
-appended_answer (Refused n) = refused n
+-- what the code answers: the new used count, or the refusal
+abbrev pub appended_answer : Result ℕ Refusal → Answer
+appended_answer (Ok count) = success (count ∷ [])
+appended_answer (Err e) = refused (number e)

@@ -1,15 +1,15 @@
 -- The header of one section (002, "Section Layout"; 01, "Sections"; 02, i): its fields, its faults and what it opens.
 -- A stream is a list of bytes; a byte past its end counts as 0.
-use Rattle.std.specs.Prelude.{ℕ, ◌+◌, ◌-◌, ◌%◌, ◌≤◌, ◌<◌, ◌^◌, ◌≡◌, Bool, true, false, cond, not, ◌&&◌, ◌||◌, List, [], ◌∷◌, ◌++◌, eqb, ltb, length, get_or}
+use Rattle.std.specs.Prelude.{ℕ, ◌+◌, ◌-◌, ◌%◌, ◌≤◌, ◌<◌, ◌^◌, ◌≡◌, Bool, true, false, cond, not, ◌&&◌, ◌||◌, List, [], ◌∷◌, ◌++◌, eqb, ltb, length, get_or, Option, Some, None, Result, Ok, Err}
+use Rattle.common.specs.Refusal.{number}
 use Rattle.common.specs.Refusals.{Row, row, first_refusal, unless_refused}
+use Rattle.common.specs.declared.refusal.Refusal.{Refusal}
 use Rattle.numbers.specs.LittleEndian.{le}
 use Rattle.sections.specs.Types.{compression, common_header, compression_header, guid_defined_header, type_info}
 use Rattle.sections.specs.declared.header.Mode.{Mode}
 use Rattle.sections.specs.declared.header.Mode.TheVariants.{Framework, Pi}
-use Rattle.sections.specs.declared.header.Size.{Size}
-use Rattle.sections.specs.declared.header.Size.TheVariants.{Refused, Leaf, Holder}
-use Rattle.sections.specs.declared.header.Head.{Head}
-use Rattle.sections.specs.declared.header.Head.TheVariants.{Fault, Closed, Open}
+use Rattle.sections.specs.declared.header.Header.{Header}
+use Rattle.sections.specs.declared.header.Section.{Section}
 use Rattle.sections.specs.declared.types.Class.{Class}
 use Rattle.sections.specs.declared.types.Class.TheVariants.{OpenableHolder, GuidHeadedLeaf, PlainLeaf}
 
@@ -112,6 +112,13 @@ head_faults mode left s at =
     size_faults mode left s at
     ++ (row (is_holder (type_info (type_at s at)).class && wrong_contents s at (type_at s at) (header_length mode s at) (size_at mode s at)) 204 ∷ [])
 
+-- what stands at a start: a fault, a section that is not opened (a leaf, or a holder with packed contents), or a holder whose contents, from
+-- `from` to `end`, are searched. A section shows the bytes from `first` to `end`
+pub data Head : Type 0 where
+  Fault : ℕ → Head
+  Closed : (section_type first end : ℕ) → Head
+  Open : (section_type first from end : ℕ) → Head
+
 -- a section without a fault, with a header and a size of so many bytes: a holder whose contents are searched, or one that is not opened.
 -- It shows what follows its header
 unfoldable pub section_of : List ℕ → (at section_type header size : ℕ) → Head
@@ -131,7 +138,22 @@ head_in mode left s at = unless_refused Fault (first_refusal (head_faults mode l
 unfoldable pub head_at : Mode → List ℕ → ℕ → Head
 head_at mode s at = head_in mode (length s - at) s at
 
--- private to the code's contracts: what the size reader answers, where `left` bytes are left
+-- what the code answers: a section, by where its contents start that are searched, or the refusal
+abbrev pub opened : (section_type first end : ℕ) → Option ℕ → Head
+opened t first e None = Closed t first e
+opened t first e (Some from) = Open t first from e
+
+abbrev pub head_of : Result Section Refusal → Head
+head_of (Ok x) = opened x.section_type x.first x.end x.contents
+head_of (Err e) = Fault (number e)
+
+-- private to the code's contracts: what the size reader answers, where `left` bytes are left: a refusal, or the type, the length of the header
+-- and the size of a leaf or a holder
+pub data Size : Type 0 where
+  Refused : ℕ → Size
+  Leaf : (section_type header size : ℕ) → Size
+  Holder : (section_type header size : ℕ) → Size
+
 unfoldable pub sized_at : Mode → (left : ℕ) → List ℕ → ℕ → Size
 sized_at mode left s at =
     unless_refused Refused (first_refusal (size_faults mode left s at))
@@ -145,16 +167,31 @@ tested_of left section_type header size =
     (cond (ltb left size) (Refused 203)
     (cond (is_holder (type_info section_type).class) (Holder section_type header size) (Leaf section_type header size)))
 
+-- as the code holds it
+abbrev pub size_of : Result Header Refusal → Size
+size_of (Ok x) = cond (is_holder x.class) (Holder x.section_type x.length x.size) (Leaf x.section_type x.length x.size)
+size_of (Err e) = Refused (number e)
+
 -- what a holder that passed 201 to 203 is, by its own fields
 unfoldable pub holder_of : List ℕ → (at section_type header size : ℕ) → Head
 holder_of s at section_type header size =
     cond (wrong_contents s at section_type header size) (Fault 204) (section_of s at section_type header size)
 
--- such a holder: its own fields lie in the bytes that are read
-pub record Lies (s : List ℕ) (at section_type header size : ℕ) : Type 0 where
-  pub holds : is_holder (type_info section_type).class ≡ true
-  pub header_least : common_header ≤ header
-  pub header_most : header ≤ long_header
-  pub least : least_size header section_type ≤ size
-  pub fields : at + least_size header section_type ≤ length s
-  pub bound : at + size < 2 ^ 64
+-- and by where the code finds its contents
+abbrev pub contents_head : Header → (at : ℕ) → Result (Option ℕ) Refusal → Head
+contents_head x at (Ok found) = opened x.section_type (at + x.length) (at + x.size) found
+contents_head x at (Err e) = Fault (number e)
+
+-- what a section that passed 201 to 203 is
+unfoldable pub past_203 : List ℕ → (at : ℕ) → Header → Head
+past_203 s at x =
+    cond (is_holder x.class) (holder_of s at x.section_type x.length x.size) (Closed x.section_type (at + x.length) (at + x.size))
+
+-- such a section: its type's own fields lie in the bytes that are read
+pub record Lies (s : List ℕ) (at : ℕ) (x : Header) : Type 0 where
+  pub class : is_holder x.class ≡ is_holder (type_info x.section_type).class
+  pub header_least : common_header ≤ x.length
+  pub header_most : x.length ≤ long_header
+  pub least : least_size x.length x.section_type ≤ x.size
+  pub fields : at + least_size x.length x.section_type ≤ length s
+  pub bound : at + x.size < 2 ^ 64

@@ -1,14 +1,15 @@
 -- Searching a section stream (01, "Sections"; 02, i and f): "the whole tree is tested before a search answers", then the instance of the type
 -- asked for is taken from the sections of the walk; or the first of a type, without what comes after it.
-use Rattle.std.specs.Prelude.{ℕ, ◌≡◌, cond, List, [], ◌∷◌, eqb, length}
+use Rattle.std.specs.Prelude.{ℕ, ◌≡◌, cond, List, [], ◌∷◌, eqb, length, Result, Ok, Err}
 use Rattle.std.proofs.Math.Option.{Option, none, some}
 use Rattle.std.proofs.Math.ListN.{get_elem?}
 use Rattle.common.specs.Answers.{Answer, refused, success}
+use Rattle.common.specs.Refusal.{number}
 use Rattle.common.specs.Refusals.{unless_refused}
+use Rattle.common.specs.declared.refusal.Refusal.{Refusal}
 use Rattle.sections.specs.Walk.{Trace, done, fault, section, stream_walk}
 use Rattle.sections.specs.declared.header.Mode.{Mode}
-use Rattle.sections.specs.declared.search.Found.{Found}
-use Rattle.sections.specs.declared.search.Found.TheVariants.{Part, Refused}
+use Rattle.sections.specs.declared.search.Part.{Part}
 
 -- a section of the walk: its type, and the first byte and the end, in the lent stream, of what follows its header
 pub record Section : Type 0 where
@@ -57,10 +58,10 @@ first_answer t (section u f e rest) = cond (eqb u t) (success (f ∷ e ∷ [])) 
 abbrev pub search_first_of : Mode → List ℕ → (section_type : ℕ) → Answer
 search_first_of mode s section_type = first_answer section_type (stream_walk mode s)
 
--- what the code's `Found` answers: the part's first byte and end, or the refusal
-abbrev pub found_answer : Found → Answer
-found_answer (Part first e) = success (first ∷ e ∷ [])
-found_answer (Refused n) = refused n
+-- what the code answers: the part's first byte and end, or the refusal
+abbrev pub found_answer : Result Part Refusal → Answer
+found_answer (Ok part) = success (part.first ∷ part.end ∷ [])
+found_answer (Err e) = refused (number e)
 
 -- a well-formed stream: its walk meets no fault
 abbrev pub WellFormed : Mode → List ℕ → Type 0

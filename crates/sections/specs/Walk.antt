@@ -1,9 +1,7 @@
 -- The walk through a section stream and its holders (01, "Sections"; 02, i and c): depth first, left to right, through at most eight levels.
 use Rattle.std.specs.Prelude.{ℕ, zero, suc, ◌+◌, ◌-◌, ◌*◌, ◌/◌, Bool, true, cond, ◌&&◌, List, eqb, ltb, length, get_or, take, drop}
-use Rattle.sections.specs.Header.{is_pi, head_at}
+use Rattle.sections.specs.Header.{Head, Fault, Closed, Open, is_pi, head_at}
 use Rattle.sections.specs.declared.header.Mode.{Mode}
-use Rattle.sections.specs.declared.header.Head.{Head}
-use Rattle.sections.specs.declared.header.Head.TheVariants.{Fault, Closed, Open}
 
 -- what the walk meets, in walk order: sections, each with its type and the first byte and the end of what follows its header,
 -- counted in the outer stream; at the end nothing more, or the first fault, with the first byte of the section at fault, of 207 the padding

@@ -1,89 +1,52 @@
 // Appending a leaf to a section stream.
-ghost use Rattle.std.specs.Prelude.{[], ◌∷◌, ◌++◌, ◌≡◌, ◌+◌, ◌≤◌, not, ◌&&◌, ◌⊎◌, ltb, length};
+ghost use Rattle.std.specs.Prelude.{[], ◌∷◌, ◌++◌, ◌≡◌, ◌+◌, ◌≤◌, ◌⊎◌, length};
 ghost use Rattle.std.proofs.lemmas.List.Edits.{sets};
 ghost use Rattle.numbers.specs.LittleEndian.{le_bytes};
-ghost use Rattle.sections.specs.Append.{appended_answer, append_of, buffer_after, added_with, leaf_header, leaf_start};
-ghost use Rattle.sections.specs.Header.{is_pi, largest_field};
+ghost use Rattle.sections.specs.Append.{appended_answer, append_of, buffer_after, added_with, leaf_start};
 ghost use Rattle.sections.specs.Walk.{aligned as aligned_of};
 
 use crate::header::{EXTENDED_SIZE, LARGEST_FIELD, LONG_HEADER, Mode, TYPE};
-use crate::search::stream_limit;
 use crate::types::{COMMON_HEADER, SECTION_COMPRESSION, SECTION_GUID_DEFINED, type_info};
 use crate::walk::aligned;
+use common::refusal::Refusal;
 
-// What appending answers: the new used count; or document 01's refusal number, 2, 202, 206 or 5.
-#[derive(Clone, Copy)]
-pub enum Appended {
-    Used(usize),
-    Refused(u16),
-}
-
-// Appends a leaf after the `used` bytes of a stream in a buffer: padding, header and body. Every
-// other byte of the buffer stays, and on a refusal all of them. The stream itself is not tested.
-// Linear in the body.
-pub fn append(mode: Mode, buffer: &mut [u8], used: usize, section_type: u8, body: &[u8]) -> Appended
+// Appends a leaf after the `used` bytes of a stream in a buffer, padding, header and body, and answers the
+// new used count. Every other byte of the buffer stays, and on a refusal all of them: 2, 202, 206 or 5. The
+// stream itself is not tested. Linear in the body.
+pub fn append(
+    mode: Mode,
+    buffer: &mut [u8],
+    used: usize,
+    section_type: u8,
+    body: &[u8],
+) -> Result<usize, Refusal>
     ensures { (appended_answer result ≡ append_of mode (length buffer.old) used section_type (length body.now))
         × (buffer.new ≡ buffer_after mode buffer.old used section_type body.now) }
 {
-    if section_type == SECTION_COMPRESSION {
-        return Appended::Refused(2);
-    }
-    if section_type == SECTION_GUID_DEFINED {
-        return Appended::Refused(2);
+    if section_type == SECTION_COMPRESSION || section_type == SECTION_GUID_DEFINED {
+        return Err(Refusal::InvalidParameter);
     }
     if buffer.len() < used {
-        return Appended::Refused(2);
+        return Err(Refusal::InvalidParameter);
     }
     let size = COMMON_HEADER + body.len();
-    let info = type_info(section_type);
-    let least = info.least;
-    if size < least {
-        return Appended::Refused(202);
+    if size < type_info(section_type).least {
+        return Err(Refusal::SectionTooShort);
     }
-    if oversized(mode, size) {
-        return Appended::Refused(206);
+    // A size over this is refused first, so that the sum fits.
+    if mode.largest_leaf() < size {
+        return Err(Refusal::StreamTooLong);
     }
-    let limit = stream_limit(mode);
-    // A body over the limit is refused first, so that the sum fits.
-    if limit < size {
-        return Appended::Refused(206);
-    }
-    let header = leaf_header(mode, body.len());
+    let header = mode.leaf_header(body.len());
     let end = aligned(used) + (header + body.len());
-    if limit < end {
-        return Appended::Refused(206);
+    if mode.stream_limit() < end {
+        return Err(Refusal::StreamTooLong);
     }
     if buffer.len() < end {
-        return Appended::Refused(5);
+        return Err(Refusal::BufferTooSmall);
     }
     store_leaf(buffer, used, section_type, header, body);
-    Appended::Used(end)
-}
-
-// Whether in Framework mode no header holds the size of a leaf, `size` with a short one. In PI mode a
-// long one holds every size up to the stream limit, which is tested after this.
-fn oversized(mode: Mode, size: usize) -> bool
-    ensures { result ≡ (not (is_pi mode) && ltb largest_field size) }
-{
-    match mode {
-        Mode::Framework => LARGEST_FIELD < size,
-        Mode::Pi => false,
-    }
-}
-
-// The length of the header of a leaf with a body of m bytes.
-fn leaf_header(mode: Mode, m: usize) -> usize
-    ensures { result ≡ leaf_header mode m }
-{
-    match mode {
-        Mode::Framework => COMMON_HEADER,
-        Mode::Pi => {
-            if m < LARGEST_FIELD - COMMON_HEADER {
-                return COMMON_HEADER;
-            }
-            LONG_HEADER
-        }
-    }
+    Ok(end)
 }
 
 // Stores padding, header and body from byte `used` on.

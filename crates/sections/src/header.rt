@@ -1,19 +1,11 @@
 // Reading the header of the section at one start.
-ghost use Rattle.std.specs.Prelude.{◌≡◌, cond, ltb, ◌+◌, ◌≤◌, ◌<◌, ◌^◌, length};
-ghost use Rattle.sections.specs.declared.header.Size.TheVariants.{Refused};
-ghost use Rattle.sections.specs.Header.{is_long, sized_at, tested_of, head_at, holder_of, Lies};
+ghost use Rattle.std.specs.Prelude.{Ok, ◌≡◌, cond, ltb, ◌+◌, ◌≤◌, ◌<◌, ◌^◌, length};
+ghost use Rattle.sections.specs.Header.{size_of, sized_at, head_of, head_at};
 
 use crate::types::{
     COMMON_HEADER, COMPRESSION_HEADER, Class, GUID_DEFINED_HEADER, SECTION_COMPRESSION, type_info,
 };
-
-// The two meanings of a section's size field. In PI mode FF FF FF stands for a header of 8 bytes, in
-// which a 32-bit size follows the type; in Framework mode it is a size like any other.
-#[derive(Clone, Copy)]
-pub enum Mode {
-    Framework,
-    Pi,
-}
+use common::refusal::Refusal;
 
 // The length of a long header, one with a 32-bit size (PI's EFI_COMMON_SECTION_HEADER2), and the size
 // field that stands for it.
@@ -33,205 +25,233 @@ pub(crate) const DATA_OFFSET: usize = 16;
 
 const ATTRIBUTES: usize = 18;
 
-// What the first 4 or 8 bytes of a section say: a fault, or the type, the length of the header and the
-// size of a leaf or a holder.
-#[derive(Clone, Copy)]
-pub(crate) enum Size {
-    Refused(u16),
-    Leaf {
-        section_type: u8,
-        header: usize,
-        size: usize,
-    },
-    Holder {
-        section_type: u8,
-        header: usize,
-        size: usize,
-    },
+// A stream over this many bytes is refused: in Framework mode, and in PI mode.
+const FRAMEWORK_LIMIT: usize = 16_777_216;
+
+const PI_LIMIT: usize = 67_108_864;
+
+// The two meanings of a section's size field. In PI mode FF FF FF stands for a header of 8 bytes, in
+// which a 32-bit size follows the type; in Framework mode it is a size like any other.
+#[derive(Clone, Copy, Debug, PartialEq, Eq)]
+pub enum Mode {
+    Framework,
+    Pi,
 }
 
-// What stands at a start: a fault, a section that is not opened (a leaf, or a holder with packed
-// contents), or a holder whose contents, from `from` to `end`, are searched. A section shows the
-// bytes from `first` to `end`.
-#[derive(Clone, Copy)]
-pub enum Head {
-    Fault(u16),
-    Closed {
-        section_type: u8,
-        first: usize,
-        end: usize,
-    },
-    Open {
-        section_type: u8,
-        first: usize,
-        from: usize,
-        end: usize,
-    },
-}
+impl Mode {
+    ghost use Rattle.sections.specs.Header.{is_long, is_pi, largest_field};
+    ghost use Rattle.sections.specs.Walk.{stream_limit};
+    ghost use Rattle.sections.specs.Append.{leaf_header};
 
-// The header at a start where bytes are left: faults 201 to 204, in that order, or the section.
-pub(crate) fn read_head(mode: Mode, s: &[u8], at: usize) -> Head
-    requires { at < length s.now }
-    ensures { result ≡ head_at mode s.now at }
-{
-    let sized = read_size(mode, s, at, s.len() - at);
-    match sized {
-        Size::Refused(n) => Head::Fault(n),
-        Size::Leaf {
-            section_type,
-            header,
-            size,
-        } => {
-            let first = at + header;
-            let end = at + size;
-            Head::Closed {
-                section_type,
-                first,
-                end,
+    // The most bytes of a stream.
+    #[tactic(auto, unfolding(crate::specs::Walk::stream_limit))]
+    pub fn stream_limit(self) -> usize
+        ensures { result ≡ stream_limit self }
+    {
+        match self {
+            Mode::Framework => FRAMEWORK_LIMIT,
+            Mode::Pi => PI_LIMIT,
+        }
+    }
+
+    // Whether a size field stands for a long header.
+    #[tactic(auto, unfolding(crate::specs::Header::is_long))]
+    pub(crate) fn is_long(self, field: usize) -> bool
+        ensures { result ≡ is_long self field }
+    {
+        match self {
+            Mode::Framework => false,
+            Mode::Pi => field == LARGEST_FIELD,
+        }
+    }
+
+    // The length of the header that a size field stands in.
+    pub(crate) fn header_length(self, field: usize) -> usize
+        ensures { result ≡ cond (is_long self field) 8 4 }
+    {
+        if self.is_long(field) {
+            LONG_HEADER
+        } else {
+            COMMON_HEADER
+        }
+    }
+
+    // The most bytes of a leaf with a short header that can be appended: in Framework mode its size field holds
+    // them, and in PI mode the stream limit alone bounds them, since a long header holds every size up to it.
+    pub(crate) fn largest_leaf(self) -> usize
+        ensures { result ≡ cond (is_pi self) (stream_limit self) largest_field }
+    {
+        match self {
+            Mode::Framework => LARGEST_FIELD,
+            Mode::Pi => PI_LIMIT,
+        }
+    }
+
+    // The length of the header of a leaf with a body of m bytes.
+    pub(crate) fn leaf_header(self, m: usize) -> usize
+        ensures { result ≡ leaf_header self m }
+    {
+        match self {
+            Mode::Framework => COMMON_HEADER,
+            Mode::Pi => {
+                if m < LARGEST_FIELD - COMMON_HEADER {
+                    return COMMON_HEADER;
+                }
+                LONG_HEADER
             }
         }
-        Size::Holder {
-            section_type,
-            header,
-            size,
-        } => holder(s, at, section_type, header, size),
     }
 }
 
-// The size reader: faults 201 to 203, in that order, or the size and the length of the header. `left`
-// bytes are left in the stream that holds the section; of the section its header alone is read.
-pub(crate) fn read_size(mode: Mode, s: &[u8], at: usize, left: usize) -> Size
+// A section that a stream shows: the bytes from `first` to `end`. `contents` is where its contents start
+// that are searched, which end at `end` too; of a leaf and of a holder with packed contents none are.
+#[derive(Clone, Copy, Debug, PartialEq, Eq)]
+pub struct Section {
+    pub section_type: u8,
+    pub first: usize,
+    pub end: usize,
+    pub contents: Option<usize>,
+}
+
+// What the first 4 or 8 bytes of a section say: its type and class, the length of the header and the size
+// of the section.
+#[derive(Clone, Copy, Debug, PartialEq, Eq)]
+pub(crate) struct Header {
+    pub(crate) section_type: u8,
+    pub(crate) class: Class,
+    pub(crate) length: usize,
+    pub(crate) size: usize,
+}
+
+// The section at a start where bytes are left, or the first of its faults 201 to 204.
+pub(crate) fn read_section(mode: Mode, s: &[u8], at: usize) -> Result<Section, Refusal>
+    requires { at < length s.now }
+    ensures { head_of result ≡ head_at mode s.now at }
+{
+    let header = read_header(mode, s, at, s.len() - at)?;
+    header.section(s, at)
+}
+
+// The size reader: faults 201 to 203, in that order, or the header. `left` bytes are left in the stream
+// that holds the section; of the section its header alone is read.
+pub(crate) fn read_header(mode: Mode, s: &[u8], at: usize, left: usize) -> Result<Header, Refusal>
     requires { at + left < 2 ^ 64 }
-    ensures { result ≡ sized_at mode left s.now at }
+    ensures { size_of result ≡ sized_at mode left s.now at }
 {
     if left < COMMON_HEADER {
-        return Size::Refused(201);
+        return Err(Refusal::SectionCut);
     }
-    let field = numbers::u24_byte_at(s, at);
-    let number = field.number as usize;
-    let section_type = field.byte;
-    if !is_long(mode, number) {
-        return tested(section_type, COMMON_HEADER, number, left);
+    let start = numbers::u24_byte_at(s, at);
+    let field = start.number as usize;
+    if !mode.is_long(field) {
+        return Header::tested(start.byte, COMMON_HEADER, field, left);
     }
     if left < LONG_HEADER {
-        return Size::Refused(201);
+        return Err(Refusal::SectionCut);
     }
     let size = numbers::u32_at(s, at + EXTENDED_SIZE) as usize;
-    tested(section_type, LONG_HEADER, size, left)
+    Header::tested(start.byte, LONG_HEADER, size, left)
 }
 
-// Whether a size field stands for a long header.
-pub(crate) fn is_long(mode: Mode, field: usize) -> bool
-    ensures { result ≡ is_long mode field }
-{
-    match mode {
-        Mode::Framework => false,
-        Mode::Pi => field == LARGEST_FIELD,
-    }
-}
+impl Header {
+    ghost use Rattle.std.specs.Prelude.{true};
+    ghost use Rattle.sections.specs.Header.{Refused, size_of, tested_of, grown, head_of, contents_head, is_holder, holder_of, past_203, Lies};
 
-// Past 201: faults 202 and 203, in that order, or a leaf or a holder. The class is asked first, so that each class's tests are compiled with its own
-// least size.
-fn tested(section_type: u8, header: usize, size: usize, left: usize) -> Size
-    requires { (4 ≤ header) × (header ≤ 8) }
-    ensures { result ≡ tested_of left section_type header size }
-{
-    let info = type_info(section_type);
-    let least = info.least + (header - COMMON_HEADER);
-    let leaf = Size::Leaf {
-        section_type,
-        header,
-        size,
-    };
-    let holder = Size::Holder {
-        section_type,
-        header,
-        size,
-    };
-    let class = info.class;
-    match class {
-        Class::OpenableHolder => fitting(size, least, left, holder),
-        Class::GuidHeadedLeaf => fitting(size, least, left, leaf),
-        Class::PlainLeaf => fitting(size, least, left, leaf),
-    }
-}
-
-// Faults 202 and 203, in that order, of a section of `size` bytes that has at least `least`, or what was found.
-fn fitting(size: usize, least: usize, left: usize, found: Size) -> Size
-    ensures { result ≡ cond (ltb size least) (Refused 202) (cond (ltb left size) (Refused 203) found) }
-{
-    if size < least {
-        return Size::Refused(202);
-    }
-    if left < size {
-        return Size::Refused(203);
-    }
-    found
-}
-
-// A holder that passed 201 to 203, by its own fields: fault 204, or the section. Of the section these
-// fields alone are read.
-pub(crate) fn holder(s: &[u8], at: usize, section_type: u8, header: usize, size: usize) -> Head
-    requires { Lies s.now at section_type header size }
-    ensures { result ≡ holder_of s.now at section_type header size }
-{
-    if section_type == SECTION_COMPRESSION {
-        return compressed(s, at, header, size);
-    }
-    let more = header - COMMON_HEADER;
-    let fields = at + header;
-    let offset = numbers::u16_of(s[fields + DATA_OFFSET], s[fields + DATA_OFFSET + 1]) as usize;
-    if offset < GUID_DEFINED_HEADER + more {
-        return Head::Fault(204);
-    }
-    if size < offset {
-        return Head::Fault(204);
-    }
-    let first = fields;
-    let from = at + offset;
-    let end = at + size;
-    let attributes = numbers::u16_of(s[fields + ATTRIBUTES], s[fields + ATTRIBUTES + 1]);
-    if attributes % 2 == 1 {
-        return Head::Closed {
+    // Past 201: faults 202 and 203, in that order, or the header. The class is asked first, so that each
+    // class's tests are compiled with its own least size.
+    fn tested(section_type: u8, length: usize, size: usize, left: usize) -> Result<Header, Refusal>
+        requires { (4 ≤ length) × (length ≤ 8) }
+        ensures { size_of result ≡ tested_of left section_type length size }
+    {
+        let info = type_info(section_type);
+        let class = info.class;
+        let header = Header {
             section_type,
-            first,
-            end,
+            class,
+            length,
+            size,
         };
+        let least = header.grown(info.least);
+        match class {
+            Class::OpenableHolder => header.fitting(least, left),
+            Class::GuidHeadedLeaf => header.fitting(least, left),
+            Class::PlainLeaf => header.fitting(least, left),
+        }
     }
-    Head::Open {
-        section_type,
-        first,
-        from,
-        end,
-    }
-}
 
-// The same of a compression section.
-fn compressed(s: &[u8], at: usize, header: usize, size: usize) -> Head
-    requires { Lies s.now at 1 header size }
-    ensures { result ≡ holder_of s.now at 1 header size }
-{
-    let section_type = SECTION_COMPRESSION;
-    let more = header - COMMON_HEADER;
-    let fields = at + header;
-    let first = fields;
-    let from = at + COMPRESSION_HEADER + more;
-    let end = at + size;
-    if s[fields + COMPRESSION_KIND] != 0 {
-        return Head::Closed {
-            section_type,
-            first,
-            end,
+    // Faults 202 and 203, in that order, of a section that has at least `least` bytes, or its header.
+    fn fitting(self, least: usize, left: usize) -> Result<Header, Refusal>
+        ensures { size_of result ≡ cond (ltb self.size least) (Refused 202) (cond (ltb left self.size) (Refused 203) (size_of (Ok self))) }
+    {
+        if self.size < least {
+            return Err(Refusal::SectionTooShort);
+        }
+        if left < self.size {
+            return Err(Refusal::SectionTooLong);
+        }
+        Ok(self)
+    }
+
+    // What a number of bytes from a section's first byte on becomes that counts a header of 4 bytes.
+    fn grown(&self, n: usize) -> usize
+        requires { (4 ≤ self.now.length) × (self.now.length ≤ 8) × (n < 2 ^ 63) }
+        ensures { result ≡ grown self.now.length n }
+    {
+        n + (self.length - COMMON_HEADER)
+    }
+
+    // Past 203: the section, or a holder's fault 204. Of the section a holder's own fields alone are read.
+    pub(crate) fn section(&self, s: &[u8], at: usize) -> Result<Section, Refusal>
+        requires { Lies s.now at self.now }
+        ensures { head_of result ≡ past_203 s.now at self.now }
+    {
+        let contents = match self.class {
+            Class::OpenableHolder => self.contents(s, at)?,
+            Class::GuidHeadedLeaf => None,
+            Class::PlainLeaf => None,
         };
+        Ok(Section {
+            section_type: self.section_type,
+            first: at + self.length,
+            end: at + self.size,
+            contents,
+        })
     }
-    let unpacked = numbers::u32_of(s[fields], s[fields + 1], s[fields + 2], s[fields + 3]) as usize;
-    if unpacked != size - (COMPRESSION_HEADER + more) {
-        return Head::Fault(204);
+
+    // Where the contents of a holder start that are searched: none where they are packed, or fault 204.
+    fn contents(&self, s: &[u8], at: usize) -> Result<Option<usize>, Refusal>
+        requires { Lies s.now at self.now × (is_holder self.now.class ≡ true) }
+        ensures { contents_head self.now at result ≡ holder_of s.now at self.now.section_type self.now.length self.now.size }
+    {
+        if self.section_type == SECTION_COMPRESSION {
+            return self.compression_contents(s, at);
+        }
+        let fields = at + self.length;
+        let offset = numbers::u16_of(s[fields + DATA_OFFSET], s[fields + DATA_OFFSET + 1]) as usize;
+        if offset < self.grown(GUID_DEFINED_HEADER) || self.size < offset {
+            return Err(Refusal::WrongContents);
+        }
+        let attributes = numbers::u16_of(s[fields + ATTRIBUTES], s[fields + ATTRIBUTES + 1]);
+        if attributes % 2 == 1 {
+            return Ok(None);
+        }
+        Ok(Some(at + offset))
     }
-    Head::Open {
-        section_type,
-        first,
-        from,
-        end,
+
+    // The same of a compression section.
+    fn compression_contents(&self, s: &[u8], at: usize) -> Result<Option<usize>, Refusal>
+        requires { Lies s.now at self.now × (self.now.section_type ≡ 1) }
+        ensures { contents_head self.now at result ≡ holder_of s.now at self.now.section_type self.now.length self.now.size }
+    {
+        let fields = at + self.length;
+        if s[fields + COMPRESSION_KIND] != 0 {
+            return Ok(None);
+        }
+        let own = self.grown(COMPRESSION_HEADER);
+        let unpacked = numbers::u32_of(s[fields], s[fields + 1], s[fields + 2], s[fields + 3]);
+        if unpacked as usize != self.size - own {
+            return Err(Refusal::WrongContents);
+        }
+        Ok(Some(at + own))
     }
 }

@@ -38,7 +38,7 @@ pub(crate) const GUID_DEFINED_HEADER: usize = 24;
 const FREEFORM_HEADER: usize = 20;
 
 // The thirteen types that document 01 lists, and all others.
-#[derive(Clone, Copy)]
+#[derive(Clone, Copy, Debug, PartialEq, Eq)]
 pub enum TypeName {
     Compression,
     GuidDefined,
@@ -57,14 +57,14 @@ pub enum TypeName {
 }
 
 // A holder is what 002 calls an encapsulation section.
-#[derive(Clone, Copy)]
+#[derive(Clone, Copy, Debug, PartialEq, Eq)]
 pub enum Class {
     OpenableHolder,
     GuidHeadedLeaf,
     PlainLeaf,
 }
 
-#[derive(Clone, Copy)]
+#[derive(Clone, Copy, Debug, PartialEq, Eq)]
 pub struct TypeInfo {
     pub name: TypeName,
     pub class: Class,

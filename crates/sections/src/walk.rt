@@ -1,92 +1,105 @@
 // The walk through a section stream and the holders in it.
-ghost use Rattle.std.specs.Prelude.{◌≡◌, ◌+◌, ◌<◌, ◌^◌, cond, length};
+ghost use Rattle.std.specs.Prelude.{None, ◌≡◌, ◌+◌, ◌-◌, ◌≤◌, ◌<◌, ◌^◌, true, false, length, MatchResult};
+ghost use Rattle.common.specs.declared.refusal.Refusal.TheVariants.{NonzeroPadding};
 ghost use Rattle.sections.specs.Walk.{aligned as aligned_of, walk, zeros};
-ghost use Rattle.sections.specs.Seek.{visited, run, carried};
+ghost use Rattle.sections.specs.Seek.{run, carried, walked};
 
-use crate::header::{Head, Mode, read_head};
+use crate::header::{Mode, Section, read_section};
+use crate::search::Part;
+use common::refusal::Refusal;
 
-// The words of what the walk carries along: how many sections of the type wanted are still to be
-// passed; the first byte and the end of the part of the one wanted, which are 0 until it is met; and
-// whether the walk stops there, which is 0 where it goes on.
-const LEFT: usize = 0;
+// Sections start on multiples of this, counted from the start of the stream that holds them.
+const ALIGNMENT: usize = 4;
 
-pub(crate) const FIRST: usize = 1;
+// The section that a walk looks for: one of a type that has `left` sections of that type before it, and
+// whether the walk stops there. Where it goes on, `found` is the part of the section once it is met.
+#[derive(Clone, Copy, Debug, PartialEq, Eq)]
+pub(crate) struct Wanted {
+    pub(crate) section_type: u8,
+    pub(crate) left: u64,
+    pub(crate) stops: bool,
+    pub(crate) found: Option<Part>,
+}
 
-pub(crate) const END: usize = 2;
+impl Wanted {
+    ghost use Rattle.sections.specs.Seek.{visited, carried};
 
-const STOP: usize = 3;
-
-// What a walk answers that stopped at the section wanted.
-pub(crate) const STOPPED: u16 = 1;
+    // At a section of a type that shows a part: that part, where the walk stops there.
+    fn visit(&mut self, section_type: u8, part: Part) -> Option<Part>
+        ensures same { self.new.section_type ≡ self.old.section_type }
+        ensures visited { carried result self.new ≡ visited self.old.section_type (carried None self.old) section_type part.first part.end }
+    {
+        if section_type != self.section_type || self.found.is_some() {
+            return None;
+        }
+        if self.left > 0 {
+            self.left -= 1;
+            return None;
+        }
+        if self.stops {
+            return Some(part);
+        }
+        self.found = Some(part);
+        None
+    }
+}
 
 // Walks a stream that starts at byte `base` of the outer one, with `below` levels left below it, and
-// answers the first fault, or STOPPED, or 0 at its end. What it carries along is lent to it
-// (docs/DECISIONS.md, 69 and 73). One pass: each section is read once, and the calls are as deep as the
-// levels.
+// answers the first fault, or the part of the section wanted where it stopped there, or None at its end.
+// What it carries along is lent to it (docs/DECISIONS.md, 69 and 73). One pass: each section is read once,
+// and the calls are as deep as the levels.
 pub(crate) fn walk_stream(
     mode: Mode,
     s: &[u8],
     base: usize,
     below: u64,
-    want: u8,
-    seek: &mut [u64; 4],
-) -> u16
-    requires { (base + length s.now < 2 ^ 63) × (length seek.old ≡ 4) }
-    ensures { (length seek.new ≡ 4)
-        × (carried result seek.new ≡ run want (carried 0 seek.old) (walk mode below s.now base)) }
+    wanted: &mut Wanted,
+) -> Result<Option<Part>, Refusal>
+    requires { base + length s.now < 2 ^ 63 }
+    ensures same { wanted.new.section_type ≡ wanted.old.section_type }
+    ensures walked { walked result wanted.new ≡ run wanted.old.section_type (carried None wanted.old) (walk mode below s.now base) }
 {
     let mut at = 0;
+    // Each turn goes on to the start after the section that it read.
     while at < s.len() {
-        let head = read_head(mode, s, at);
-        match head {
-            Head::Fault(n) => {
-                return n;
-            }
-            Head::Closed {
-                section_type,
-                first,
-                end,
-            } => {
-                if visit(want, section_type, base + first, base + end, seek) {
-                    return STOPPED;
-                }
-                if s.len() <= end { // it ends the stream: no padding
-                    return 0;
-                }
-                let next = aligned(end);
-                if !zero_bytes(s, end, next - end) {
-                    return 207;
-                }
-                at = next;
-            }
-            Head::Open {
-                section_type,
-                first,
-                from,
-                end,
-            } => {
-                if below == 0 {
-                    return 205;
-                }
-                if visit(want, section_type, base + first, base + end, seek) { // before its children
-                    return STOPPED;
-                }
-                let inner = walk_stream(mode, &s[from..end], base + from, below - 1, want, seek);
-                if inner != 0 {
-                    return inner;
-                }
-                if s.len() <= end { // it ends the stream: no padding
-                    return 0;
-                }
-                let next = aligned(end);
-                if !zero_bytes(s, end, next - end) {
-                    return 207;
-                }
-                at = next;
+        let section = read_section(mode, s, at)?;
+        if below == 0 && section.contents.is_some() {
+            return Err(Refusal::TooDeep);
+        }
+        let part = Part {
+            first: base + section.first,
+            end: base + section.end,
+        };
+        let stopped = wanted.visit(section.section_type, part); // a holder before its children
+        if stopped.is_some() {
+            return Ok(stopped);
+        }
+        if let Some(from) = section.contents {
+            let inner = walk_stream(mode, &s[from..section.end], base + from, below - 1, wanted)?;
+            if inner.is_some() {
+                return Ok(inner);
             }
         }
+        at = next_start(s, section.end)?;
     }
-    0
+    Ok(None)
+}
+
+// The start after a section that ends at byte `end`, or 207 where a byte of its padding is not zero. Padding
+// cut off by the stream's end is fine.
+fn next_start(s: &[u8], end: usize) -> Result<usize, Refusal>
+    requires { (end ≤ length s.now) × (length s.now < 2 ^ 63) }
+    ensures { MatchResult result
+        (λ next. (next ≡ aligned_of end) × (zeros s.now end (next - end) ≡ true))
+        (λ refusal. (refusal ≡ NonzeroPadding) × (zeros s.now end (aligned_of end - end) ≡ false)) }
+{
+    let next = aligned(end);
+    let padding = &s[end..next.min(s.len())];
+    if padding.iter().all(|&byte| byte == 0) {
+        Ok(next)
+    } else {
+        Err(Refusal::NonzeroPadding)
+    }
 }
 
 // The first multiple of 4 from n on.
@@ -94,45 +107,5 @@ pub(crate) fn aligned(n: usize) -> usize
     requires { n < 2 ^ 63 }
     ensures { result ≡ aligned_of n }
 {
-    (n + 3) / 4 * 4
-}
-
-// Whether the n bytes from a place on are zero; a byte past the end counts as 0, so the test stops there.
-fn zero_bytes(s: &[u8], at: usize, n: usize) -> bool
-    requires { at + n < 2 ^ 64 }
-    ensures { result ≡ zeros s.now at n }
-{
-    let mut i = 0;
-    while i < n {
-        if s.len() <= at + i {
-            return true;
-        }
-        if s[at + i] != 0 {
-            return false;
-        }
-        i += 1;
-    }
-    true
-}
-
-// At a section of a type whose part is from `first` to `end`: whether the walk stops there.
-fn visit(want: u8, section_type: u8, first: usize, end: usize, seek: &mut [u64; 4]) -> bool
-    requires { (0 < end) × (length seek.old ≡ 4) }
-    ensures { (length seek.new ≡ 4)
-        × (carried (cond result 1 0) seek.new ≡ visited want (carried 0 seek.old) section_type first end) }
-{
-    if section_type != want {
-        return false;
-    }
-    if seek[END] != 0 {
-        return false;
-    }
-    let left = seek[LEFT];
-    if left != 0 {
-        seek[LEFT] = left - 1;
-        return false;
-    }
-    seek[FIRST] = first as u64;
-    seek[END] = end as u64;
-    seek[STOP] != 0
+    n.next_multiple_of(ALIGNMENT)
 }

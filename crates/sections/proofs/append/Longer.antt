@@ -17,8 +17,7 @@ use Rattle.sections.specs.Walk.{Trace, done, fault, section, and_then, aligned, 
 use Rattle.sections.specs.Search.{first_fault}
 use Rattle.sections.specs.Append.{short_size, needs_long, leaf_header, leaf_size, used_after, leaf_start, added_with, added}
 use Rattle.sections.specs.declared.header.Mode.{Mode}
-use Rattle.sections.specs.declared.header.Head.{Head}
-use Rattle.sections.specs.declared.header.Head.TheVariants.{Fault, Closed, Open}
+use Rattle.sections.specs.Header.{Head, Fault, Closed, Open}
 use Rattle.sections.proofs.types.Rows.{both}
 use Rattle.sections.proofs.append.Stores.{length-leaf_start, length-added, least_header, header_long, header_short, either_header, long_start, short_start, most_limit}
 use Rattle.sections.proofs.header.Cases.{Whole}

@@ -13,7 +13,7 @@ use Rattle.sections.specs.Types.{compression, guid_defined, type_info}
 use Rattle.sections.specs.Header.{header_length, size_at, type_at, grown, least_size, unpacked_length, compression_kind, data_offset, attributes, is_holder}
 use Rattle.sections.specs.Header.{contents_at, packed, wrong_contents, section_of, section_at, head_at, holder_of}
 use Rattle.sections.specs.declared.header.Mode.{Mode}
-use Rattle.sections.specs.declared.header.Head.TheVariants.{Fault, Closed, Open}
+use Rattle.sections.specs.Header.{Fault, Closed, Open}
 use Rattle.sections.proofs.types.Rows.{both, not_holder, holder_guid, holds-compression, holds_guid}
 use Rattle.sections.proofs.header.Sizes.{Fits, header_range}
 use Rattle.sections.proofs.header.Sizes as sizes

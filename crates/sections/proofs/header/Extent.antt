@@ -10,7 +10,7 @@ use lib.ListN.{length}
 use Rattle.sections.specs.Types.{compression, type_info}
 use Rattle.sections.specs.Header.{header_length, size_at, type_at, least_size, is_holder, contents_at, packed, section_of, section_at, head_at}
 use Rattle.sections.specs.declared.header.Mode.{Mode}
-use Rattle.sections.specs.declared.header.Head.TheVariants.{Closed, Open}
+use Rattle.sections.specs.Header.{Closed, Open}
 use Rattle.sections.proofs.types.Rows.{least_range, least_compression, holder_guid}
 use Rattle.sections.proofs.header.Sizes.{header_range}
 use Rattle.sections.proofs.header.Cases.{Whole, AtStart, head_cases}

@@ -17,8 +17,7 @@ use Rattle.sections.specs.Header.{sized_at, tested_of}
 use Rattle.sections.specs.declared.types.TypeInfo.{TypeInfo}
 use Rattle.sections.specs.declared.header.Mode.{Mode}
 use Rattle.sections.specs.declared.header.Mode.TheVariants.{Framework}
-use Rattle.sections.specs.declared.header.Size.{Size}
-use Rattle.sections.specs.declared.header.Size.TheVariants.{Refused, Leaf, Holder}
+use Rattle.sections.specs.Header.{Size, Refused, Leaf, Holder}
 
 -- which header it is
 pub not_long_framework : (field : ℕ) → is_long Framework field ≡ false

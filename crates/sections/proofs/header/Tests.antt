@@ -15,10 +15,8 @@ use Rattle.sections.specs.Header.{header_length, size_at, type_at, grown, least_
 use Rattle.sections.specs.Header.{data_offset, attributes, is_holder, contents_at, packed, wrong_contents, size_faults, head_faults, section_of, section_at}
 use Rattle.sections.specs.Header.{head_in, head_at, sized_at, holder_of, Lies}
 use Rattle.sections.specs.declared.header.Mode.{Mode}
-use Rattle.sections.specs.declared.header.Size.{Size}
-use Rattle.sections.specs.declared.header.Size.TheVariants.{Refused, Leaf, Holder}
-use Rattle.sections.specs.declared.header.Head.{Head}
-use Rattle.sections.specs.declared.header.Head.TheVariants.{Fault, Closed, Open}
+use Rattle.sections.specs.Header.{Size, Refused, Leaf, Holder}
+use Rattle.sections.specs.Header.{Head, Fault, Closed, Open}
 use Rattle.sections.proofs.types.Rows.{least_compression, least_guid, holder_guid, holds-compression}
 use Rattle.sections.proofs.header.Sizes.{header_range, Fits, size_none, none_fits}
 

@@ -18,8 +18,7 @@ use Rattle.sections.specs.Header.{size_field, is_long, header_length, size_at, t
 use Rattle.sections.specs.Header.{grown, is_holder, own_fields, contents_at, packed, wrong_contents, size_faults, section_of, head_in, holder_of}
 use Rattle.sections.specs.Partial.{contents_fields, bytes_for, bytes_for_head, needed, fields_for}
 use Rattle.sections.specs.declared.header.Mode.{Mode}
-use Rattle.sections.specs.declared.header.Head.{Head}
-use Rattle.sections.specs.declared.header.Head.TheVariants.{Fault, Closed, Open}
+use Rattle.sections.specs.Header.{Head, Fault, Closed, Open}
 use Rattle.sections.proofs.types.Rows.{holder_guid}
 use Rattle.sections.proofs.header.Decided.{own_fields_lem, own_least}
 use Rattle.sections.proofs.header.Sizes.{Fits, header_range, short_size_lem, long_header_lem, long_size}

@@ -9,9 +9,8 @@ use lib.ListN.{get_or}
 use Rattle.sections.specs.Header.{head_in}
 use Rattle.sections.specs.Partial.{needed, decided, partial_of}
 use Rattle.sections.specs.declared.header.Mode.{Mode}
-use Rattle.sections.specs.declared.header.Head.{Head}
-use Rattle.sections.specs.declared.header.Head.TheVariants.{Fault, Closed, Open}
-use Rattle.sections.specs.declared.partial.Partial.TheVariants.{Waiting}
+use Rattle.sections.specs.Header.{Head, Fault, Closed, Open}
+use Rattle.sections.specs.Partial.{Waiting}
 use Rattle.sections.proofs.partial.Agree.{moved, agree}
 use Rattle.sections.proofs.partial.Views.{needed_most, part_finds, part_is}
 

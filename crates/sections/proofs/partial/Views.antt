@@ -16,10 +16,9 @@ use Rattle.sections.specs.Header.{size_faults, section_of, head_in, sized_at, ho
 use Rattle.sections.specs.Partial.{contents_fields, bytes_for, bytes_for_head, needed, decided, fields_for, partial_holder, partial_of}
 use Rattle.sections.specs.declared.types.TypeInfo.{TypeInfo}
 use Rattle.sections.specs.declared.header.Mode.{Mode}
-use Rattle.sections.specs.declared.header.Head.{Head}
-use Rattle.sections.specs.declared.header.Head.TheVariants.{Fault, Closed, Open}
-use Rattle.sections.specs.declared.header.Size.TheVariants.{Refused, Leaf, Holder}
-use Rattle.sections.specs.declared.partial.Partial.{Partial}
+use Rattle.sections.specs.Header.{Head, Fault, Closed, Open}
+use Rattle.sections.specs.Header.{Refused, Leaf, Holder}
+use Rattle.sections.specs.Partial.{Partial}
 use Rattle.sections.proofs.types.Rows.{least_range}
 use Rattle.sections.proofs.header.Decided.{own_least}
 use Rattle.sections.proofs.header.Sizes.{Fits, header_range, size_none, size_201, size_201_long, size_202, size_203}

@@ -14,7 +14,7 @@ use Rattle.common.specs.Answers.{refused, success}
 use Rattle.sections.specs.Header.{own_fields, head_at}
 use Rattle.sections.specs.Walk.{Trace, done, fault, section, stream_limit, stream_walk}
 use Rattle.sections.specs.Search.{Section, sections, first_fault, of_type, part_answer, search_of, first_answer, search_first_of, WellFormed}
-use Rattle.sections.specs.declared.header.Head.TheVariants.{Fault, Closed, Open}
+use Rattle.sections.specs.Header.{Fault, Closed, Open}
 use Rattle.sections.specs.declared.header.Mode.{Mode}
 use Rattle.sections.proofs.search.Shown.{nth_past}
 use Rattle.sections.proofs.walk.Inside.{Inside, inside_stream}

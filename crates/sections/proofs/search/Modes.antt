@@ -15,8 +15,7 @@ use Rattle.sections.specs.Walk.{Trace, done, fault, section, and_then, aligned, 
 use Rattle.sections.specs.Search.{first_fault, search_of, first_answer, search_first_of}
 use Rattle.sections.specs.declared.header.Mode.{Mode}
 use Rattle.sections.specs.declared.header.Mode.TheVariants.{Framework, Pi}
-use Rattle.sections.specs.declared.header.Head.{Head}
-use Rattle.sections.specs.declared.header.Head.TheVariants.{Fault, Closed, Open}
+use Rattle.sections.specs.Header.{Head, Fault, Closed, Open}
 use Rattle.sections.proofs.header.Sizes.{not_long, short_header, short_size_lem, header_range}
 use Rattle.sections.proofs.header.Cases.{head_201}
 use Rattle.sections.proofs.walk.Parts.{part_byte}

@@ -8,7 +8,7 @@ use lib.ListN.{length}
 use Rattle.sections.specs.Header.{head_at}
 use Rattle.sections.specs.Walk.{Trace, done, fault, section, and_then, part, after_padding, walk}
 use Rattle.sections.specs.Search.{Section, sections, first_fault}
-use Rattle.sections.specs.declared.header.Head.TheVariants.{Open}
+use Rattle.sections.specs.Header.{Open}
 use Rattle.sections.specs.declared.header.Mode.{Mode}
 use Rattle.sections.proofs.walk.Starts.{walk_from, walk_open}
 

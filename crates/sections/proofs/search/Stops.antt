@@ -15,8 +15,7 @@ use Rattle.sections.specs.Types.{type_info}
 use Rattle.sections.specs.Header.{header_length, size_at, type_at, least_size, own_fields, head_at}
 use Rattle.sections.specs.Walk.{Trace, done, fault, section, and_then, aligned, zeros, first_nonzero, part, after_padding, meet, siblings, walk, stream_limit, stream_walk}
 use Rattle.sections.specs.Search.{first_answer, search_first_of}
-use Rattle.sections.specs.declared.header.Head.{Head}
-use Rattle.sections.specs.declared.header.Head.TheVariants.{Fault, Closed, Open}
+use Rattle.sections.specs.Header.{Head, Fault, Closed, Open}
 use Rattle.sections.specs.declared.header.Mode.{Mode}
 use Rattle.sections.proofs.header.Decided.{own_least, head_same}
 use Rattle.sections.proofs.header.Extent.{is_closed, is_open, closed_within, open_within}

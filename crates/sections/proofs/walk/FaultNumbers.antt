@@ -10,8 +10,7 @@ use lib.ListN.{length}
 use Rattle.sections.specs.Header.{head_at}
 use Rattle.sections.specs.Search.{first_fault}
 use Rattle.sections.specs.Walk.{Trace, done, fault, section, after_padding, aligned, and_then, first_nonzero, meet, part, siblings, stream_limit, stream_walk, walk, zeros}
-use Rattle.sections.specs.declared.header.Head.{Head}
-use Rattle.sections.specs.declared.header.Head.TheVariants.{Fault, Closed, Open}
+use Rattle.sections.specs.Header.{Head, Fault, Closed, Open}
 use Rattle.sections.specs.declared.header.Mode.{Mode}
 use Rattle.sections.proofs.header.Cases.{fault_range}
 

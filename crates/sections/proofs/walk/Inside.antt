@@ -8,8 +8,7 @@ use lib.Dec.{eqb, ltb}
 use lib.ListN.{length, length-take}
 use Rattle.sections.specs.Header.{own_fields, head_at}
 use Rattle.sections.specs.Walk.{Trace, done, fault, section, and_then, aligned, zeros, first_nonzero, part, after_padding, meet, siblings, walk, stream_limit, stream_walk}
-use Rattle.sections.specs.declared.header.Head.{Head}
-use Rattle.sections.specs.declared.header.Head.TheVariants.{Fault, Closed, Open}
+use Rattle.sections.specs.Header.{Head, Fault, Closed, Open}
 use Rattle.sections.specs.declared.header.Mode.{Mode}
 use Rattle.sections.proofs.header.Decided.{own_least}
 use Rattle.sections.proofs.header.Extent.{closed_within, open_within}

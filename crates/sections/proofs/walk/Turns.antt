@@ -8,7 +8,7 @@ use lib.ListN.{length}
 use Rattle.sections.specs.Header.{head_at}
 use Rattle.sections.specs.Walk.{and_then, aligned, zeros, part, after_padding, walk}
 use Rattle.sections.specs.Seek.{Seek, visited, halted, run}
-use Rattle.sections.specs.declared.header.Head.TheVariants.{Fault, Closed, Open}
+use Rattle.sections.specs.Header.{Fault, Closed, Open}
 use Rattle.sections.specs.declared.header.Mode.{Mode}
 use Rattle.sections.proofs.walk.Carried.{Ended, run_then}
 use Rattle.sections.proofs.walk.Padding.{padding_zero, padding_207, zeros_past}

@@ -1,9 +1,0 @@
--- `header_length` meets its contract.
-use mathlib.Core.Path.{sym, ◌∙◌}
-use Rattle.sections.proofs.partial.header_length.Goals as goal
-
-pub returns-then-is_long : goal.returns-then-is_long
-returns-then-is_long c = rw (sym c.is_long.ensures ∙ c.if-is_long.true)
-
-pub returns : goal.returns
-returns c = rw (sym c.is_long.ensures ∙ c.if-is_long.false)
