@@ -4,12 +4,10 @@ use Rattle.common.specs.Answers.{Answer, success}
 use Rattle.common.specs.Answers as Answers
 use Rattle.common.specs.Refusal.{number}
 use Rattle.common.specs.declared.refusal.Refusal.{Refusal}
-use Rattle.sections.specs.Partial.{partial_of}
+use Rattle.sections.specs.Partial.{partial_of, Partial, Waiting, Fault, Closed, Open}
 use Rattle.sections.specs.Walk.{stream_limit}
 use Rattle.sections.specs.declared.header.Mode.{Mode}
 use Rattle.sections.specs.declared.header.Mode.TheVariants.{Framework}
-use Rattle.sections.specs.declared.partial.Partial.{Partial}
-use Rattle.sections.specs.declared.partial.Partial.TheVariants.{Waiting, Fault, Closed, Open}
 use Rattle.receiver.specs.Tally.{Tally, tally_of, wrapped, visited}
 use Rattle.receiver.specs.Place.{Phase, Header, Body, Padding, Complete, Exceeded, Refused, Place, placed, place_of, with_phase, arrived, entered}
 use Rattle.receiver.specs.declared.receiver.Receiver as Code

@@ -1,8 +1,7 @@
 -- What the code takes of a portion at once: private to the crate, and no part of what its calls promise.
 use Rattle.std.specs.Prelude.{◌≡◌, ℕ, ◌+◌, ◌-◌, ◌<◌, ◌≤◌, true, cond, List, length, drop, ◌==◌, nat_lt}
 use Rattle.sections.specs.Header.{own_fields}
-use Rattle.sections.specs.declared.partial.Partial.{Partial}
-use Rattle.sections.specs.declared.partial.Partial.TheVariants.{Waiting, Fault, Closed, Open}
+use Rattle.sections.specs.Partial.{Partial, Waiting, Fault, Closed, Open}
 use Rattle.receiver.specs.Tally.{wrapped}
 use Rattle.receiver.specs.Place.{Body, Place, with_phase, onwards}
 use Rattle.receiver.specs.Receiver.{Receiver, fed, sound}

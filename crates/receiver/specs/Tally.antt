@@ -1,6 +1,6 @@
 -- The sections that a receiver met.
 use Rattle.std.specs.Prelude.{ℕ, ◌+◌, ◌-◌, ◌%◌, ◌^◌, Bool, true, false, cond, ◌==◌, Option, Some, None}
-use Rattle.receiver.specs.declared.tally.Part.{Part}
+use Rattle.sections.specs.declared.search.Part.{Part}
 use Rattle.receiver.specs.declared.tally.Tally as Code
 
 -- their number; how many of the type wanted are still to be passed; whether the one wanted is met, and the part that it shows, 0 and 0 before

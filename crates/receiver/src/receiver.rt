@@ -1,22 +1,22 @@
 // The calls of a receiver: the announcement, a portion, the finish, and the fault found so far.
 ghost use Rattle.std.specs.Prelude.{◌≡◌, ◌+◌, ◌<◌, ◌≤◌, true, length, take, replicate};
 ghost use Rattle.common.specs.Refusal.{number};
-ghost use Rattle.sections.specs.Partial.{partial_of};
+ghost use Rattle.sections.specs.Partial.{partial_answer, partial_of};
 ghost use Rattle.receiver.specs.Receiver.{announced, announced_by, announcement_answer, announce_of, fault_answer, fault_of, finish_of, portion_of, received_answer, receiver_of, refused_by, sound};
 ghost use Rattle.receiver.specs.Receiver.{begun, looked, met as met_of, refused as refused_of, stepped};
 ghost use Rattle.receiver.specs.Place.{Complete, Header as HeaderOf, placed};
 ghost use Rattle.receiver.specs.Steps.{header_bytes, Taken};
 
 use crate::place::{LEVELS, Level, Phase, Place};
-use crate::tally::{Part, Tally};
+use crate::tally::Tally;
 use common::Refusal;
-use sections::header::Mode;
-use sections::partial::{LONGEST_HEADER, Partial, own_fields, read_partial};
-use sections::search::stream_limit;
+use sections::header::{Mode, Section};
+use sections::partial::{LONGEST_HEADER, own_fields, read_partial};
+use sections::search::Part;
 
 // The state between portions: what is wanted, what was met, where it is in the file, and the bytes that
 // came of a header that is not whole yet, zero behind them.
-#[derive(Clone, Copy)]
+#[derive(Clone, Copy, Debug, PartialEq, Eq)]
 pub struct Receiver {
     pub mode: Mode,
     pub want: u8,
@@ -46,7 +46,7 @@ impl Receiver {
         ensures answer { announcement_answer result ≡ announce_of mode total }
         ensures receiver { announced_by result ≡ announced mode section_type instance total }
     {
-        if stream_limit(mode) < total {
+        if mode.stream_limit() < total {
             return Err(Refusal::StreamTooLong);
         }
         let mut new = Receiver::begun(mode, section_type, instance, total);
@@ -176,8 +176,8 @@ impl Receiver {
         ensures receiver { let r = receiver_of self.old in let look = partial_of r.mode (take 28 bytes.now) 28 r.place.left in receiver_of self.new ≡ looked r (take 28 bytes.now) (header_bytes look) look }
     {
         self.header.copy_from_slice(&bytes[..LONGEST_HEADER]);
-        let look = read_partial(self.mode, self.header, LONGEST_HEADER, self.place.left);
-        let used = header_bytes(look);
+        let look = read_partial(self.mode, &self.header, LONGEST_HEADER, self.place.left);
+        let used = header_bytes(&look);
         self.look(used, look);
         used
     }
@@ -189,43 +189,26 @@ impl Receiver {
         ensures { receiver_of self.new ≡ stepped (HeaderOf have) (receiver_of self.old) byte }
     {
         self.header[have] = byte;
-        let look = read_partial(self.mode, self.header, have + 1, self.place.left);
+        let look = read_partial(self.mode, &self.header, have + 1, self.place.left);
         self.look(have + 1, look);
     }
 
     // With `have` bytes of a header, which `header` holds, by what they say. It holds none afterwards,
-    // unless more are to come.
-    #[tactic(auto, unfolding(crate::specs::Receiver::looked))]
-    fn look(&mut self, have: usize, look: Partial)
+    // unless more are to come. The contents of a section are a level of their own, and those that are
+    // searched have sections, for which one more is kept.
+    #[tactic(auto, unfolding(crate::specs::Receiver::looked, sections::specs::Partial::partial_answer, sections::specs::Partial::decided))]
+    fn look(&mut self, have: usize, look: Result<Option<Section>, Refusal>)
         requires { self.old.place.depth ≤ 8 }
-        ensures { receiver_of self.new ≡ looked (receiver_of self.old) self.old.header have look }
+        ensures { receiver_of self.new ≡ looked (receiver_of self.old) self.old.header have (partial_answer look) }
     {
         match look {
-            Partial::Waiting => self.place.phase = Phase::Header(have),
-            Partial::Fault(_) => self.refuse(Refusal::SectionCut),
-            Partial::Closed {
-                section_type,
-                first,
-                end,
-            } => {
-                if LEVELS <= self.place.depth {
-                    self.refuse(Refusal::TooDeep);
-                } else {
-                    self.meet(section_type, first, end, end, have);
-                }
-            }
-            Partial::Open {
-                section_type,
-                first,
-                from,
-                end,
-            } => {
-                if LEVELS <= self.place.depth + 1 {
-                    self.refuse(Refusal::TooDeep);
-                } else {
-                    self.meet(section_type, first, from, end, have);
-                }
-            }
+            Ok(None) => self.place.phase = Phase::Header(have),
+            Ok(Some(section)) => match section.contents {
+                Some(from) if self.place.depth + 1 < LEVELS => self.meet(section, from, have),
+                None if self.place.depth < LEVELS => self.meet(section, section.end, have),
+                _ => self.refuse(Refusal::TooDeep),
+            },
+            Err(refusal) => self.refuse(refusal),
         }
     }
 
@@ -237,32 +220,31 @@ impl Receiver {
         self.place.phase = Phase::Refused(refusal);
     }
 
-    // At a section of a type, whose part is from `first` to `end` and whose contents from `from` on, in
-    // places counted from its first byte; `have` bytes of it came.
+    // At a section whose contents, or its end where they are not searched, are from `from` on, in places
+    // counted from its first byte; `have` bytes of it came.
     #[tactic(auto, unfolding(crate::specs::Receiver::met))]
-    fn meet(&mut self, section_type: u8, first: usize, from: usize, end: usize, have: usize)
+    fn meet(&mut self, section: Section, from: usize, have: usize)
         requires { self.old.place.depth < 8 }
-        ensures { receiver_of self.new ≡ met_of (receiver_of self.old) section_type first from end have }
+        ensures { receiver_of self.new ≡ met_of (receiver_of self.old) section.section_type section.first from section.end have }
     {
         self.header = [0; LONGEST_HEADER];
         let at = self.place.at;
         let part = Part {
-            first: at.wrapping_add(first),
-            end: at.wrapping_add(end),
+            first: at.wrapping_add(section.first),
+            end: at.wrapping_add(section.end),
         };
-        self.tally.visit(self.want, section_type, part);
-        self.place.enter(end, from, have);
+        self.tally.visit(self.want, section.section_type, part);
+        self.place.enter(section.end, from, have);
     }
 }
 
 // How many bytes a header takes that was found whole.
-#[tactic(auto, unfolding(crate::specs::Steps::header_bytes))]
-fn header_bytes(look: Partial) -> usize
-    ensures { result ≡ header_bytes look }
+#[tactic(auto, unfolding(crate::specs::Steps::header_bytes, sections::specs::Partial::partial_answer, sections::specs::Partial::decided))]
+fn header_bytes(look: &Result<Option<Section>, Refusal>) -> usize
+    ensures { result ≡ header_bytes (partial_answer look.now) }
 {
     match look {
-        Partial::Waiting | Partial::Fault(_) => 1,
-        Partial::Closed { section_type, first, .. } | Partial::Open { section_type, first, .. } =>
-            first.wrapping_add(own_fields(section_type)),
+        Ok(Some(section)) => section.first.wrapping_add(own_fields(section.section_type)),
+        _ => 1,
     }
 }

@@ -2,12 +2,7 @@
 ghost use Rattle.std.specs.Prelude.{◌≡◌};
 ghost use Rattle.receiver.specs.Tally.{tally_of, visited};
 
-// Of the section wanted, the bytes that a search shows.
-#[derive(Clone, Copy, Debug, PartialEq, Eq)]
-pub struct Part {
-    pub first: usize,
-    pub end: usize,
-}
+use sections::search::Part;
 
 // How many sections were met; how many of the type wanted are still to be passed; and, once it is met,
 // the part of the one wanted.

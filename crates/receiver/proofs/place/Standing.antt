@@ -2,11 +2,10 @@
 use Rattle.std.proofs.Common.{◌≡◌, ℕ, suc, ◌+◌, ◌-◌, ◌%◌, ◌^◌, ◌<◌, ◌≤◌, Bool, true, false, cond, eqb, ltb, ◌⊎◌, List, [], ◌∷◌, length, get_or, sym, refl, ap, ◌∙◌, subst, ap₂, inl, inr, mod-eq_of_lt, arith, ltb-false, ltb-true, lt-ltb, eqb-true, le-leb}
 use mathlib.Core.Option.{some}
 use borrow.Author.Tests.{eqb-false}
-use Rattle.sections.specs.Header.{head_at}
+use Rattle.sections.specs.Header.{head_at, Fault}
 use Rattle.sections.specs.Partial.{bytes_for, needed}
 use Rattle.sections.specs.Walk.{Trace, done, fault, and_then, aligned, after_padding}
 use Rattle.sections.specs.declared.header.Mode.{Mode}
-use Rattle.sections.specs.declared.header.Head.TheVariants.{Fault}
 use Rattle.sections.proofs.partial.Views.{says_201, needed_three}
 use Rattle.sections.proofs.walk.Starts.{walk_from, walk_end, walk_fault}
 use Rattle.receiver.specs.Place.{placed, started, arrived, padding, Header, Body, Padding, Complete, Refused, Place}

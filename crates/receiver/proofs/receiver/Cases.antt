@@ -1,7 +1,6 @@
 -- What the bytes of a header say, as the code has them: in the receiver that holds them.
 use Rattle.std.proofs.Common.{◌≡◌, ℕ, ◌+◌, List, take, set, refl, ap, ◌∙◌}
-use Rattle.sections.specs.Partial.{partial_of}
-use Rattle.sections.specs.declared.partial.Partial.{Partial}
+use Rattle.sections.specs.Partial.{partial_of, Partial}
 use Rattle.receiver.specs.Place.{Header}
 use Rattle.receiver.specs.Receiver.{Receiver, receiver, looked, met, stepped}
 use Rattle.receiver.specs.Steps.{header_bytes}

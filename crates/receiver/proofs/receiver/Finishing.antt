@@ -3,12 +3,10 @@ use Rattle.std.proofs.Common.{◌≡◌, ℕ, zero, suc, ◌+◌, ◌-◌, ◌<�
 use mathlib.Core.Option.{none, some}
 use borrow.Author.Tests.{lt-leb}
 use Rattle.common.specs.Answers.{refused}
-use Rattle.sections.specs.Header.{head_in, head_at}
+use Rattle.sections.specs.Header.{head_in, head_at, Head, Fault, Closed, Open}
 use Rattle.sections.specs.Partial.{needed, bytes_for_head}
 use Rattle.sections.specs.Search.{sections, first_fault}
 use Rattle.sections.specs.Walk.{Trace, done, fault, section, and_then, aligned, after_padding, part}
-use Rattle.sections.specs.declared.header.Head.{Head}
-use Rattle.sections.specs.declared.header.Head.TheVariants.{Fault, Closed, Open}
 use Rattle.sections.specs.declared.header.Mode.{Mode}
 use Rattle.sections.proofs.header.Decided.{own_least}
 use Rattle.sections.proofs.header.Extent.{closed_within, open_within}

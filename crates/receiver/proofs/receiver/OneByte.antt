@@ -2,14 +2,11 @@
 use Rattle.std.proofs.Common.{◌≡◌, ℕ, suc, ◌+◌, ◌-◌, ◌^◌, ◌<◌, ◌≤◌, Bool, true, false, cond, eqb, ltb, leb, ◌⊎◌, List, [], ◌∷◌, length, get_or, drop, set, replicate, sym, refl, ap, ◌∙◌, subst, inl, inr, mod-eq_of_lt, zero-add, arith, length-drop, length-set, length-take-le, get_or-set_other, get_or-set_same, ltb-false, ltb-true, lt-ltb, eqb-true, leb-false, leb-true}
 use borrow.Author.Tests.{eqb-false}
 use lib.ListN.{length-replicate}
-use Rattle.sections.specs.Header.{head_in, head_at}
-use Rattle.sections.specs.Partial.{bytes_for_head, needed, decided, partial_of}
+use Rattle.sections.specs.Header.{head_in, head_at, Head, Fault, Closed, Open}
+use Rattle.sections.specs.Partial.{bytes_for_head, needed, decided, partial_of, Partial}
 use Rattle.sections.specs.Search.{sections, first_fault}
 use Rattle.sections.specs.Walk.{Trace, done, fault, section, and_then, after_padding, part, walk}
-use Rattle.sections.specs.declared.header.Head.{Head}
-use Rattle.sections.specs.declared.header.Head.TheVariants.{Fault, Closed, Open}
 use Rattle.sections.specs.declared.header.Mode.{Mode}
-use Rattle.sections.specs.declared.partial.Partial.{Partial}
 use Rattle.sections.proofs.header.Decided.{own_least}
 use Rattle.sections.proofs.header.Extent.{closed_within, open_within}
 use Rattle.sections.proofs.header.Sizes.{header_range}

@@ -4,9 +4,8 @@ use mathlib.Core.Option.{Option, none, some}
 use Rattle.common.specs.Refusals.{first_refusal, unless_refused}
 use Rattle.sections.specs.Header.{type_at, header_length, packed, is_holder, head_faults, section_of, head_in}
 use Rattle.sections.specs.Types.{type_info}
-use Rattle.sections.specs.Partial.{needed, decided, partial_of}
+use Rattle.sections.specs.Partial.{needed, decided, partial_of, Partial}
 use Rattle.sections.specs.declared.header.Mode.{Mode}
-use Rattle.sections.specs.declared.partial.Partial.{Partial}
 use Rattle.sections.proofs.types.Rows.{both}
 use Rattle.sections.proofs.partial.Views.{part_is, needed_most}
 use Rattle.receiver.specs.Tally.{wrapped}

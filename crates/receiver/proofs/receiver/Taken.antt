@@ -1,7 +1,7 @@
 -- What a receiver takes at once comes to the same as its bytes one after the other.
 use Rattle.std.proofs.Common.{◌≡◌, ℕ, zero, suc, ◌+◌, ◌-◌, ◌<◌, ◌≤◌, Bool, true, false, cond, eqb, ltb, List, [], ◌∷◌, length, get_or, take, drop, refl, ap, ◌∙◌, add-zero, add-one, arith, length-drop, get_or-drop, drop-cons, drop-drop, ltb-false, ltb-true, ne_eqb, eqb-true}
 use lib.Seq.{drop-length}
-use Rattle.sections.specs.declared.partial.Partial.{Partial}
+use Rattle.sections.specs.Partial.{Partial}
 use Rattle.receiver.specs.Place.{with_phase, onwards, Phase, Header, Body, Padding, Complete, Exceeded, Refused, Place}
 use Rattle.receiver.specs.Receiver.{at_place, stepped, fed, looked, padding_step, Receiver}
 use Rattle.receiver.specs.Steps.{Taken, body_place, body_used, header_bytes}

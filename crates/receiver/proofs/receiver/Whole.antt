@@ -4,13 +4,9 @@ use mathlib.Core.Option.{Option, none, some}
 use borrow.Author.Tests.{eqb-false}
 use Rattle.common.specs.Refusals.{first_refusal, unless_refused}
 use Rattle.sections.specs.Types.{type_info}
-use Rattle.sections.specs.Header.{type_at, header_length, size_at, is_holder, own_fields, contents_at, packed, head_faults, section_of, head_in}
-use Rattle.sections.specs.Partial.{bytes_for_head, needed, decided, partial_of}
+use Rattle.sections.specs.Header.{type_at, header_length, size_at, is_holder, own_fields, contents_at, packed, head_faults, section_of, head_in, Head, Fault, Closed, Open}
+use Rattle.sections.specs.Partial.{bytes_for_head, needed, decided, partial_of, Partial, Waiting}
 use Rattle.sections.specs.declared.header.Mode.{Mode}
-use Rattle.sections.specs.declared.header.Head.{Head}
-use Rattle.sections.specs.declared.header.Head.TheVariants.{Fault, Closed, Open}
-use Rattle.sections.specs.declared.partial.Partial.{Partial}
-use Rattle.sections.specs.declared.partial.Partial.TheVariants.{Waiting}
 use Rattle.sections.proofs.header.Sizes.{header_range}
 use Rattle.sections.proofs.partial.Views.{needed_most, part_finds, part_is}
 use Rattle.sections.proofs.partial.Agree.{moved, agree}
