@@ -1,6 +1,6 @@
 -- The header of one section (002, "Section Layout"; 01, "Sections"; 02, i): its fields, its faults and what it opens.
 -- A stream is a list of bytes; a byte past its end counts as 0.
-use Rattle.std.specs.Prelude.{ℕ, ◌+◌, ◌-◌, ◌%◌, ◌≤◌, ◌<◌, ◌^◌, ◌≡◌, Bool, true, false, cond, not, ◌&&◌, ◌||◌, List, [], ◌∷◌, ◌++◌, eqb, ltb, length, get_or, Option, Some, None, Result, Ok, Err}
+use Rattle.std.specs.Prelude.{ℕ, ◌+◌, ◌-◌, ◌%◌, ◌≤◌, ◌<◌, ◌^◌, ◌≡◌, Bool, true, false, cond, not, ◌&&◌, ◌||◌, List, [], ◌∷◌, ◌++◌, eqb, ltb, length, get_or, Option, Some, None, IfSome, Result, Ok, Err}
 use Rattle.common.specs.Refusal.{number}
 use Rattle.common.specs.Refusals.{Row, row, first_refusal, unless_refused}
 use Rattle.common.specs.declared.refusal.Refusal.{Refusal}
@@ -148,28 +148,21 @@ head_of (Ok x) = opened x.section_type x.first x.end x.contents
 head_of (Err e) = Fault (number e)
 
 -- private to the code's contracts: what the size reader answers, where `left` bytes are left: a refusal, or the type, the length of the header
--- and the size of a leaf or a holder
+-- and the size
 pub data Size : Type 0 where
   Refused : ℕ → Size
-  Leaf : (section_type header size : ℕ) → Size
-  Holder : (section_type header size : ℕ) → Size
+  Sized : (section_type header size : ℕ) → Size
 
 unfoldable pub sized_at : Mode → (left : ℕ) → List ℕ → ℕ → Size
 sized_at mode left s at =
-    unless_refused Refused (first_refusal (size_faults mode left s at))
-    (cond (is_holder (type_info (type_at s at)).class) (Holder (type_at s at) (header_length mode s at) (size_at mode s at))
-    (Leaf (type_at s at) (header_length mode s at) (size_at mode s at)))
+    unless_refused Refused (first_refusal (size_faults mode left s at)) (Sized (type_at s at) (header_length mode s at) (size_at mode s at))
 
--- the same past 201, of a section with a header and a size of so many bytes
-unfoldable pub tested_of : (left section_type header size : ℕ) → Size
-tested_of left section_type header size =
-    cond (ltb size (least_size header section_type)) (Refused 202)
-    (cond (ltb left size) (Refused 203)
-    (cond (is_holder (type_info section_type).class) (Holder section_type header size) (Leaf section_type header size)))
+-- the same past 201, of a section with a header and a size of so many bytes, by the least size
+abbrev pub tested_of : (left least section_type header size : ℕ) → Size
+tested_of left least section_type header size = cond (ltb size least) (Refused 202) (cond (ltb left size) (Refused 203) (Sized section_type header size))
 
--- as the code holds it
 abbrev pub size_of : Result Header Refusal → Size
-size_of (Ok x) = cond (is_holder x.class) (Holder x.section_type x.length x.size) (Leaf x.section_type x.length x.size)
+size_of (Ok x) = Sized x.section_type x.length x.size
 size_of (Err e) = Refused (number e)
 
 -- what a holder that passed 201 to 203 is, by its own fields
@@ -182,16 +175,23 @@ abbrev pub contents_head : Header → (at : ℕ) → Result (Option ℕ) Refusal
 contents_head x at (Ok found) = opened x.section_type (at + x.length) (at + x.size) found
 contents_head x at (Err e) = Fault (number e)
 
--- what a section that passed 201 to 203 is
+-- what a section that passed them is
 unfoldable pub past_203 : List ℕ → (at : ℕ) → Header → Head
 past_203 s at x =
-    cond (is_holder x.class) (holder_of s at x.section_type x.length x.size) (Closed x.section_type (at + x.length) (at + x.size))
+    cond (is_holder (type_info x.section_type).class) (holder_of s at x.section_type x.length x.size)
+    (Closed x.section_type (at + x.length) (at + x.size))
 
--- such a section: its type's own fields lie in the bytes that are read
-pub record Lies (s : List ℕ) (at : ℕ) (x : Header) : Type 0 where
-  pub class : is_holder x.class ≡ is_holder (type_info x.section_type).class
+-- the first bytes of a section, so many where its header has 4, lie in the bytes that are read
+pub record Lies (s : List ℕ) (at : ℕ) (x : Header) (n : ℕ) : Type 0 where
   pub header_least : common_header ≤ x.length
   pub header_most : x.length ≤ long_header
-  pub least : least_size x.length x.section_type ≤ x.size
-  pub fields : at + least_size x.length x.section_type ≤ length s
+  pub least : grown x.length n ≤ x.size
+  pub fields : at + grown x.length n ≤ length s
   pub bound : at + x.size < 2 ^ 64
+
+-- a section that was read lies after the start, inside its stream, and its contents inside it
+pub record IsWithin (s : List ℕ) (at : ℕ) (x : Section) : Type 0 where
+  pub after : at + common_header ≤ x.first
+  pub shown : x.first ≤ x.end
+  pub inside : x.end ≤ length s
+  pub contents : IfSome x.contents (λ from. from ≤ x.end)

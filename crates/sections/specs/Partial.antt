@@ -62,7 +62,7 @@ unfoldable pub partial_of : Mode → List ℕ → (have left : ℕ) → Partial
 partial_of mode s have left = cond (leb (needed mode left s 0) have) (decided (head_in mode left s 0)) Partial.Waiting
 
 -- what the code answers: none while it waits, a section, or the refusal
-unfoldable pub partial_answer : Result (Option Section) Refusal → Partial
+abbrev pub partial_answer : Result (Option Section) Refusal → Partial
 partial_answer (Ok None) = Partial.Waiting
 partial_answer (Ok (Some x)) = decided (opened x.section_type x.first x.end x.contents)
 partial_answer (Err e) = Partial.Fault (number e)

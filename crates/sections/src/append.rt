@@ -23,10 +23,10 @@ pub fn append(
     ensures { (appended_answer result ≡ append_of mode (length buffer.old) used section_type (length body.now))
         × (buffer.new ≡ buffer_after mode buffer.old used section_type body.now) }
 {
-    if section_type == SECTION_COMPRESSION || section_type == SECTION_GUID_DEFINED {
-        return Err(Refusal::InvalidParameter);
-    }
-    if buffer.len() < used {
+    if section_type == SECTION_COMPRESSION
+        || section_type == SECTION_GUID_DEFINED
+        || buffer.len() < used
+    {
         return Err(Refusal::InvalidParameter);
     }
     let size = COMMON_HEADER + body.len();
@@ -59,7 +59,7 @@ fn store_leaf(buffer: &mut [u8], used: usize, section_type: u8, header: usize, b
     store_header(buffer, start, section_type, header, body.len());
     let from = start + header;
     let end = from + body.len();
-    moves::move_bytes(body, &mut buffer[from..end]);
+    buffer[from..end].copy_from_slice(body);
 }
 
 // Stores the header of a leaf with a body of m bytes. The part of 4 bytes is lent by itself, so that its stores test no bound.

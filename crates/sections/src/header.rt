@@ -1,9 +1,10 @@
 // Reading the header of the section at one start.
-ghost use Rattle.std.specs.Prelude.{Ok, ◌≡◌, cond, ltb, ◌+◌, ◌≤◌, ◌<◌, ◌^◌, length};
-ghost use Rattle.sections.specs.Header.{size_of, sized_at, head_of, head_at};
+ghost use Rattle.std.specs.Prelude.{◌≡◌, cond, ◌+◌, ◌≤◌, ◌<◌, ◌^◌, length, IfOk};
+ghost use Rattle.sections.specs.Header.{size_of, sized_at, head_of, head_at, IsWithin};
 
 use crate::types::{
-    COMMON_HEADER, COMPRESSION_HEADER, Class, GUID_DEFINED_HEADER, SECTION_COMPRESSION, type_info,
+    COMMON_HEADER, COMPRESSION_HEADER, Class, GUID_DEFINED_HEADER, SECTION_COMPRESSION,
+    SECTION_GUID_DEFINED, type_info,
 };
 use common::refusal::Refusal;
 
@@ -78,6 +79,7 @@ impl Mode {
 
     // The most bytes of a leaf with a short header that can be appended: in Framework mode its size field holds
     // them, and in PI mode the stream limit alone bounds them, since a long header holds every size up to it.
+    #[tactic(auto, unfolding(crate::specs::Walk::stream_limit))]
     pub(crate) fn largest_leaf(self) -> usize
         ensures { result ≡ cond (is_pi self) (stream_limit self) largest_field }
     {
@@ -113,12 +115,11 @@ pub struct Section {
     pub contents: Option<usize>,
 }
 
-// What the first 4 or 8 bytes of a section say: its type and class, the length of the header and the size
-// of the section.
+// What the first 4 or 8 bytes of a section say: its type, the length of this header and the size of the
+// section.
 #[derive(Clone, Copy, Debug, PartialEq, Eq)]
 pub(crate) struct Header {
     pub(crate) section_type: u8,
-    pub(crate) class: Class,
     pub(crate) length: usize,
     pub(crate) size: usize,
 }
@@ -126,7 +127,8 @@ pub(crate) struct Header {
 // The section at a start where bytes are left, or the first of its faults 201 to 204.
 pub(crate) fn read_section(mode: Mode, s: &[u8], at: usize) -> Result<Section, Refusal>
     requires { at < length s.now }
-    ensures { head_of result ≡ head_at mode s.now at }
+    ensures read { head_of result ≡ head_at mode s.now at }
+    ensures within { IfOk result (IsWithin s.now at) }
 {
     let header = read_header(mode, s, at, s.len() - at)?;
     header.section(s, at)
@@ -154,25 +156,24 @@ pub(crate) fn read_header(mode: Mode, s: &[u8], at: usize, left: usize) -> Resul
 }
 
 impl Header {
-    ghost use Rattle.std.specs.Prelude.{true};
-    ghost use Rattle.sections.specs.Header.{Refused, size_of, tested_of, grown, head_of, contents_head, is_holder, holder_of, past_203, Lies};
+    ghost use Rattle.sections.specs.Types.{type_info};
+    ghost use Rattle.sections.specs.Header.{size_of, tested_of, least_size, grown, head_of, contents_head, holder_of, past_203, Lies};
 
     // Past 201: faults 202 and 203, in that order, or the header. The class is asked first, so that each
     // class's tests are compiled with its own least size.
+    #[tactic(auto, using(crate::proofs::types::Rows::least_range))]
     fn tested(section_type: u8, length: usize, size: usize, left: usize) -> Result<Header, Refusal>
         requires { (4 ≤ length) × (length ≤ 8) }
-        ensures { size_of result ≡ tested_of left section_type length size }
+        ensures { size_of result ≡ tested_of left (least_size length section_type) section_type length size }
     {
-        let info = type_info(section_type);
-        let class = info.class;
         let header = Header {
             section_type,
-            class,
             length,
             size,
         };
+        let info = type_info(section_type);
         let least = header.grown(info.least);
-        match class {
+        match info.class {
             Class::OpenableHolder => header.fitting(least, left),
             Class::GuidHeadedLeaf => header.fitting(least, left),
             Class::PlainLeaf => header.fitting(least, left),
@@ -181,7 +182,7 @@ impl Header {
 
     // Faults 202 and 203, in that order, of a section that has at least `least` bytes, or its header.
     fn fitting(self, least: usize, left: usize) -> Result<Header, Refusal>
-        ensures { size_of result ≡ cond (ltb self.size least) (Refused 202) (cond (ltb left self.size) (Refused 203) (size_of (Ok self))) }
+        ensures { size_of result ≡ tested_of left least self.section_type self.length self.size }
     {
         if self.size < least {
             return Err(Refusal::SectionTooShort);
@@ -202,13 +203,13 @@ impl Header {
 
     // Past 203: the section, or a holder's fault 204. Of the section a holder's own fields alone are read.
     pub(crate) fn section(&self, s: &[u8], at: usize) -> Result<Section, Refusal>
-        requires { Lies s.now at self.now }
+        requires { Lies s.now at self.now (type_info self.now.section_type).least }
         ensures { head_of result ≡ past_203 s.now at self.now }
     {
-        let contents = match self.class {
-            Class::OpenableHolder => self.contents(s, at)?,
-            Class::GuidHeadedLeaf => None,
-            Class::PlainLeaf => None,
+        let contents = match self.section_type {
+            SECTION_COMPRESSION => self.compression_contents(s, at)?,
+            SECTION_GUID_DEFINED => self.guid_defined_contents(s, at)?,
+            _ => None,
         };
         Ok(Section {
             section_type: self.section_type,
@@ -218,29 +219,10 @@ impl Header {
         })
     }
 
-    // Where the contents of a holder start that are searched: none where they are packed, or fault 204.
-    fn contents(&self, s: &[u8], at: usize) -> Result<Option<usize>, Refusal>
-        requires { Lies s.now at self.now × (is_holder self.now.class ≡ true) }
-        ensures { contents_head self.now at result ≡ holder_of s.now at self.now.section_type self.now.length self.now.size }
-    {
-        if self.section_type == SECTION_COMPRESSION {
-            return self.compression_contents(s, at);
-        }
-        let fields = at + self.length;
-        let offset = numbers::u16_of(s[fields + DATA_OFFSET], s[fields + DATA_OFFSET + 1]) as usize;
-        if offset < self.grown(GUID_DEFINED_HEADER) || self.size < offset {
-            return Err(Refusal::WrongContents);
-        }
-        let attributes = numbers::u16_of(s[fields + ATTRIBUTES], s[fields + ATTRIBUTES + 1]);
-        if attributes % 2 == 1 {
-            return Ok(None);
-        }
-        Ok(Some(at + offset))
-    }
-
-    // The same of a compression section.
+    // Where the contents of a compression section start that are searched: none where they are packed, or
+    // fault 204.
     fn compression_contents(&self, s: &[u8], at: usize) -> Result<Option<usize>, Refusal>
-        requires { Lies s.now at self.now × (self.now.section_type ≡ 1) }
+        requires { Lies s.now at self.now 9 × (self.now.section_type ≡ 1) }
         ensures { contents_head self.now at result ≡ holder_of s.now at self.now.section_type self.now.length self.now.size }
     {
         let fields = at + self.length;
@@ -253,5 +235,22 @@ impl Header {
             return Err(Refusal::WrongContents);
         }
         Ok(Some(at + own))
+    }
+
+    // The same of a GUID-defined section.
+    fn guid_defined_contents(&self, s: &[u8], at: usize) -> Result<Option<usize>, Refusal>
+        requires { Lies s.now at self.now 24 × (self.now.section_type ≡ 2) }
+        ensures { contents_head self.now at result ≡ holder_of s.now at self.now.section_type self.now.length self.now.size }
+    {
+        let fields = at + self.length;
+        let offset = numbers::u16_of(s[fields + DATA_OFFSET], s[fields + DATA_OFFSET + 1]) as usize;
+        if offset < self.grown(GUID_DEFINED_HEADER) || self.size < offset {
+            return Err(Refusal::WrongContents);
+        }
+        let attributes = numbers::u16_of(s[fields + ATTRIBUTES], s[fields + ATTRIBUTES + 1]);
+        if attributes % 2 == 1 {
+            return Ok(None);
+        }
+        Ok(Some(at + offset))
     }
 }

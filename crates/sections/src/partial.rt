@@ -39,11 +39,11 @@ pub fn read_partial(
         return Ok(None);
     }
     let header = read_header(mode, bytes, 0, left)?;
-    if have < length + contents_fields(header.section_type) {
+    if have < header.length + contents_fields(header.section_type) {
         return Ok(None);
     }
     let section = header.section(bytes, 0)?;
-    if have < length + own_fields(header.section_type) {
+    if have < header.length + own_fields(header.section_type) {
         return Ok(None);
     }
     Ok(Some(section))

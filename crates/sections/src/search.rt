@@ -22,6 +22,7 @@ pub struct Part {
 // before their children. A fault anywhere in the stream is answered instead, the first that the walk
 // meets, 201 to 207; and NotFound where there is no such section. Any byte may be asked for, and any
 // instance. One pass over the stream.
+#[tactic(auto, using(crate::proofs::search::Shown::search_from))]
 pub fn search(mode: Mode, stream: &[u8], section_type: u8, instance: u64) -> Result<Part, Refusal>
     ensures { found_answer result ≡ search_of mode stream.now section_type instance }
 {
@@ -38,6 +39,7 @@ pub fn search(mode: Mode, stream: &[u8], section_type: u8, instance: u64) -> Res
 // is not read, neither its children nor its padding. The answer is its part; or the fault that comes
 // before it or is its own; or, where no section has the type, any fault, and else NotFound. Any byte may
 // be asked for. One pass, up to that section.
+#[tactic(auto, using(crate::proofs::walk::Carried::run_first))]
 pub fn search_first(mode: Mode, stream: &[u8], section_type: u8) -> Result<Part, Refusal>
     ensures { found_answer result ≡ search_first_of mode stream.now section_type }
 {
@@ -51,6 +53,7 @@ pub fn search_first(mode: Mode, stream: &[u8], section_type: u8) -> Result<Part,
 }
 
 // What the walk comes to: the part of the section wanted, where it stopped there or met it.
+#[tactic(auto, using(crate::proofs::search::Shown::sought_206, crate::proofs::search::Shown::sought_walk, crate::proofs::search::Shown::sought_fault, crate::proofs::walk::Carried::answer_end))]
 fn sought(mode: Mode, stream: &[u8], mut wanted: Wanted) -> Result<Part, Refusal>
     ensures { found_answer result ≡ seek_answer (run wanted.section_type (carried None wanted) (stream_walk mode stream.now)) }
 {

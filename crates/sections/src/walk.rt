@@ -24,6 +24,7 @@ pub(crate) struct Wanted {
 impl Wanted {
     ghost use Rattle.sections.specs.Seek.{visited, carried};
 
+    #[tactic(auto, unfolding(crate::specs::Seek::visited), using(crate::proofs::walk::Carried::visit_other, crate::proofs::walk::Carried::visit_after))]
     // At a section of a type that shows a part: that part, where the walk stops there.
     fn visit(&mut self, section_type: u8, part: Part) -> Option<Part>
         ensures same { self.new.section_type ≡ self.old.section_type }

@@ -4,6 +4,7 @@ use Prim.Native.Nat.{ℕ, ◌+◌, ◌≤◌, ◌<◌}
 use mathlib.Core.Path.{◌≡◌, refl, ◌∙◌}
 use mathlib.Core.Bool.{cond, Bool, true, false, not, ◌&&◌}
 use mathlib.Core.List.{List, [], ◌∷◌}
+use mathlib.Core.Logic.{◌⊎◌, inl, inr}
 use mathlib.Core.Option.{Option, none, some}
 use native.Mathlib.Omega.{arith}
 use borrow.Author.Tests.{lt-ltb, le-ltb, eq-eqb, ne_eqb, ltb-false, le-leb, lt-leb}
@@ -107,6 +108,39 @@ module _ (mode : Mode) (room used t m : ℕ) where
               pub append_passes : used_after mode used m ≤ room → first_refusal (append_refusals mode room used t m) ≡ none
               unfolding append_refusals
               append_passes h = limited_rows _ (row_passes _ _ _ _ (le-ltb room (used_after mode used m) h) no_row)
+
+-- the rows of 2 in one
+pub append_2 : (mode : Mode) (room used t m : ℕ)
+    → (t ≡ compression) ⊎ (((t ≡ compression → ⊥) × (t ≡ guid_defined)) ⊎ ((t ≡ compression → ⊥) × (t ≡ guid_defined → ⊥) × (room < used)))
+    → first_refusal (append_refusals mode room used t m) ≡ some 2
+append_2 mode room used t m (inl e) = append-compression mode room used t m e
+append_2 mode room used t m (inr (inl (p₁, e))) = append_guid mode room used t m p₁ e
+append_2 mode room used t m (inr (inr (p₁, p₂, h))) = append_used mode room used t m p₁ p₂ h
+
+-- the two tests of the size that the code makes in one: the most bytes of a leaf with a short header
+abbrev pub largest_leaf : Mode → ℕ
+largest_leaf mode = cond (is_pi mode) (stream_limit mode) largest_field
+
+module _ (mode : Mode) (room used t m : ℕ) where
+  pub append_206_leaf : (t ≡ compression → ⊥) → (t ≡ guid_defined → ⊥) → used ≤ room → (type_info t).least ≤ short_size m → largest_leaf mode < short_size m
+      → first_refusal (append_refusals mode room used t m) ≡ some 206
+  append_206_leaf p₁ p₂ p₃ p₄ h = go (is_pi mode) refl
+    where
+      go : (b : Bool) → is_pi mode ≡ b → first_refusal (append_refusals mode room used t m) ≡ some 206
+      go true e = append_206_body mode room used t m p₁ p₂ p₃ p₄ (rw e) (rw e at h)
+      go false e = append_206_size mode room used t m p₁ p₂ p₃ p₄ (rw (e, lt-ltb largest_field (short_size m) (rw e at h)))
+
+pub sized : (mode : Mode) (m : ℕ) → short_size m ≤ largest_leaf mode → (not (is_pi mode) && ltb largest_field (short_size m)) ≡ false
+sized mode m h = go (is_pi mode) refl
+  where
+    go : (b : Bool) → is_pi mode ≡ b → (not (is_pi mode) && ltb largest_field (short_size m)) ≡ false
+    go true e = rw e
+    go false e = rw (e, le-ltb largest_field (short_size m) (rw e at h))
+
+pub short_limit : (mode : Mode) (m : ℕ) → short_size m ≤ largest_leaf mode → short_size m ≤ 67108864
+unfolding stream_limit
+short_limit Framework m h = omega arith
+short_limit Pi m h = omega arith
 
 -- what an answer with a used count says of the arguments
 pub record Accepted (mode : Mode) (room used t m u : ℕ) : Type 0 where

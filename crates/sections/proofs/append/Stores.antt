@@ -11,8 +11,6 @@ use borrow.Author.Tests.{eq-eqb, ne_eqb}
 use lib.ListN.{length, take, drop, replicate, length-append, length-drop, length-replicate, drop_of_length-le}
 use lib.Seq.{sets, length-sets, sets-eq, drop-drop, length-take-le}
 use Rattle.common.proofs.Lists.{sets-append}
-use Rattle.moves.specs.Moved.{moved}
-use Rattle.moves.proofs.Moved.{moved_same}
 use Rattle.numbers.specs.LittleEndian.{le_bytes}
 use Rattle.numbers.proofs.LittleEndian.{length-le_bytes}
 use Rattle.sections.specs.Types.{common_header}
@@ -149,7 +147,7 @@ length-added mode used t body =
 -- padding, header and body stored one after another, each where the one before ends, are the leaf stored with its padding
 pub leaf_stored : (l l₁ l₂ body w : List ℕ) (header used pad start t from k : ℕ) → (header ≡ 4) ⊎ (header ≡ 8)
     → l₁ ≡ sets l used (le_bytes pad 0) → l₂ ≡ sets l₁ start (leaf_start header t (length body))
-    → w ≡ moved body (take k (drop from l₂))
+    → w ≡ body
     → start ≡ aligned used → pad ≡ start - used → from ≡ start + header → k ≡ length body → from + k ≤ length l
     → take from l₂ ++ (w ++ drop k (drop from l₂)) ≡ sets l used (added_with header used t body)
 unfolding added_with
@@ -164,8 +162,7 @@ leaf_stored l l₁ l₂ body w header used pad start t from k either e₁ e₂ e
     let l₂-length : length l₂ ≡ length l = ap length s₂ ∙ length-sets l used (z ++ h) in
     let padding : z ≡ replicate (aligned used - used) 0 = zero_bytes pad ∙ rw (pe, sa) in
     let bytes : (z ++ h) ++ body ≡ replicate (aligned used - used) 0 ++ (h ++ body) = rw padding (simp append_assoc) in
-    let lw : length (take k (drop from l₂)) ≡ k = length-take-le k (drop from l₂) (simp length-drop (omega arith)) in
-    rw (ew ∙ moved_same body (take k (drop from l₂)) (omega arith)) (sets-part body l₂ from k n (omega arith)) ∙ s₃ ∙ ap (sets l used) bytes
+    rw ew (sets-part body l₂ from k n (omega arith)) ∙ s₃ ∙ ap (sets l used) bytes
 
 -- the buffer with the padding and the leaf stored
 pub buffer_stored : (mode : Mode) (l : List ℕ) (used t : ℕ) (body : List ℕ) → used_after mode used (length body) ≤ length l

@@ -229,7 +229,7 @@ module _ (mode : Mode) (s : List ℕ) (at : ℕ) where
       as_guid = rw typed at (tests.head_holder mode s at f (holds_guid t typed))
 
       pub guid_open : attributes s (at + h) % 2 ≡ 0 → head_at mode s at ≡ Open guid_defined (at + h) (at + data_offset s (at + h)) (at + z)
-      guid_open clear = as_guid ∙ sym (tests.guid_open _ _ _ _ _ (holds_guid guid_defined refl) (λ e. omega arith) refl low high (λ e. omega arith) refl refl refl)
+      guid_open clear = as_guid ∙ sym (tests.guid_open _ _ _ _ refl low high (λ e. omega arith) refl refl refl)
 
       pub guid_closed : attributes s (at + h) % 2 ≡ 1 → head_at mode s at ≡ Closed guid_defined (at + h) (at + z)
-      guid_closed set = as_guid ∙ sym (tests.guid_packed _ _ _ _ _ (holds_guid guid_defined refl) (λ e. omega arith) refl low high set refl refl)
+      guid_closed set = as_guid ∙ sym (tests.guid_packed _ _ _ _ refl low high set refl refl)

@@ -4,13 +4,16 @@ use mathlib.Core.Path.{◌≡◌, refl, sym, ◌∙◌}
 use mathlib.Core.Bool.{Bool, true, false, not, ◌&&◌}
 use mathlib.Core.List.{List}
 use mathlib.Core.Logic.{inl, inr}
+use Rattle.std.specs.Prelude.{Option as OptionOf, None, Some, Result, Ok, Err, IfOk}
+use Rattle.common.specs.declared.refusal.Refusal.{Refusal}
 use native.Mathlib.Omega.{arith}
 use lib.Dec.{eqb}
 use lib.ListN.{length}
 use Rattle.sections.specs.Types.{compression, type_info}
 use Rattle.sections.specs.Header.{header_length, size_at, type_at, least_size, is_holder, contents_at, packed, section_of, section_at, head_at}
 use Rattle.sections.specs.declared.header.Mode.{Mode}
-use Rattle.sections.specs.Header.{Closed, Open}
+use Rattle.sections.specs.Header.{Closed, Open, opened, head_of, IsWithin}
+use Rattle.sections.specs.declared.header.Section.{Section}
 use Rattle.sections.proofs.types.Rows.{least_range, least_compression, holder_guid}
 use Rattle.sections.proofs.header.Sizes.{header_range}
 use Rattle.sections.proofs.header.Cases.{Whole, AtStart, head_cases}
@@ -114,3 +117,15 @@ module _ (mode : Mode) (s : List ℕ) (at : ℕ) where
       let q = (least_range (type_at s at)).0 in
       let r = header_range mode s at in
       (omega arith, omega arith, omega arith, omega arith, omega arith, omega arith)
+
+  -- the same of the section that the code read
+  opened_within : (t first e : ℕ) (o : OptionOf ℕ) → opened t first e o ≡ head_at mode s at
+      → IsWithin s at (record { section_type = t; first = first; end = e; contents = o })
+  opened_within t first e None p =
+      let w = closed_within (sym p) in record { after = omega arith; shown = omega arith; inside = omega arith; contents = tt }
+  opened_within t first e (Some from) p =
+      let w = open_within (sym p) in record { after = omega arith; shown = omega arith; inside = omega arith; contents = omega arith }
+
+  pub read_within : (r : Result Section Refusal) → head_of r ≡ head_at mode s at → IfOk r (IsWithin s at)
+  read_within (Ok x) p = opened_within x.section_type x.first x.end x.contents p
+  read_within (Err e) p = tt

@@ -1,6 +1,6 @@
 -- What the size reader meets, test by test, in order: which header stands at a start, and 201 to 203, which it decides alone.
 use Prim.Native.Nat.{ℕ, ◌+◌, ◌-◌, ◌≤◌, ◌<◌}
-use mathlib.Core.Path.{◌≡◌, refl, ◌∙◌}
+use mathlib.Core.Path.{◌≡◌, refl, sym, ◌∙◌}
 use mathlib.Core.Bool.{Bool, true, false, cond, ◌&&◌}
 use mathlib.Core.List.{List}
 use mathlib.Core.Option.{none, some}
@@ -14,10 +14,9 @@ use Rattle.sections.specs.Types.{type_info}
 use Rattle.sections.specs.Header.{is_pi, size_field, largest_field, is_long, header_length, size_at, type_at, least_size}
 use Rattle.sections.specs.Header.{is_holder, size_faults}
 use Rattle.sections.specs.Header.{sized_at, tested_of}
-use Rattle.sections.specs.declared.types.TypeInfo.{TypeInfo}
 use Rattle.sections.specs.declared.header.Mode.{Mode}
 use Rattle.sections.specs.declared.header.Mode.TheVariants.{Framework}
-use Rattle.sections.specs.Header.{Size, Refused, Leaf, Holder}
+use Rattle.sections.specs.Header.{Size, Refused, Sized}
 
 -- which header it is
 pub not_long_framework : (field : ℕ) → is_long Framework field ≡ false
@@ -125,8 +124,8 @@ module _ (mode : Mode) (left : ℕ) (s : List ℕ) (at : ℕ) where
   sized_refused e = rw e
 
   sized_tested : 4 ≤ left → header_length mode s at ≤ left
-      → tested_of left (type_at s at) (header_length mode s at) (size_at mode s at) ≡ sized_at mode left s at
-  unfolding sized_at tested_of size_faults first_refusal
+      → tested_of left (least_size (header_length mode s at) (type_at s at)) (type_at s at) (header_length mode s at) (size_at mode s at) ≡ sized_at mode left s at
+  unfolding sized_at size_faults first_refusal
   sized_tested four headed =
       rw (le-ltb left 4 four, le-ltb left (header_length mode s at) headed)
       (in_order _ (ltb (size_at mode s at) (least_size (header_length mode s at) (type_at s at))) (ltb left (size_at mode s at)))
@@ -135,11 +134,12 @@ module _ (mode : Mode) (left : ℕ) (s : List ℕ) (at : ℕ) where
   sized_201 few = sized_refused (size_201 few)
 
   module _ {field : ℕ} (four : 4 ≤ left) (read : field ≡ size_field s at) where
-    pub sized_short : {section_type : ℕ} {r : Size} → is_long mode field ≡ false → section_type ≡ type_at s at → r ≡ tested_of left section_type 4 field → r ≡ sized_at mode left s at
-    sized_short e typed p =
+    pub sized_short : {section_type header : ℕ} {r : Size} → is_long mode field ≡ false → header ≡ 4 → section_type ≡ type_at s at
+        → r ≡ tested_of left (least_size header section_type) section_type header field → r ≡ sized_at mode left s at
+    sized_short {header = header} e four_bytes typed p =
         let short = rw read at e in
-        let h = short_header mode s at short in
-        p ∙ rw (typed, read, ← short_size_lem mode s at short, ← h) (sized_tested four (rw h four))
+        let h : header ≡ header_length mode s at = four_bytes ∙ sym (short_header mode s at short) in
+        p ∙ rw (typed, h, read, ← short_size_lem mode s at short) (sized_tested four (omega arith))
 
     module _ (e : is_long mode field ≡ true) where
       long : is_long mode (size_field s at) ≡ true
@@ -148,15 +148,8 @@ module _ (mode : Mode) (left : ℕ) (s : List ℕ) (at : ℕ) where
       pub sized_201_long : left < 8 → Refused 201 ≡ sized_at mode left s at
       sized_201_long few = sized_refused (size_201_long four (rw (long_header_lem mode s at long) few))
 
-      pub sized_long : {section_type size : ℕ} {r : Size} → 8 ≤ left → section_type ≡ type_at s at → size ≡ le 4 s (at + 4) → r ≡ tested_of left section_type 8 size
-          → r ≡ sized_at mode left s at
-      sized_long eight typed n p =
-          let h = long_header_lem mode s at long in
-          p ∙ rw (typed, n, ← long_size mode s at long, ← h) (sized_tested four (rw h eight))
-
--- the tests of `tested_of`, in order, over what the type stands for
-pub tested_found : (left section_type header size : ℕ) {info : TypeInfo} {least : ℕ} {r found : Size} → info ≡ type_info section_type
-    → r ≡ cond (ltb size least) (Refused 202) (cond (ltb left size) (Refused 203) found) → least ≡ info.least + (header - 4)
-    → found ≡ cond (is_holder info.class) (Holder section_type header size) (Leaf section_type header size) → r ≡ tested_of left section_type header size
-unfolding tested_of
-tested_found left section_type header size known p l f = rw (l, f, known) at p
+      pub sized_long : {section_type header size : ℕ} {r : Size} → 8 ≤ left → header ≡ 8 → section_type ≡ type_at s at → size ≡ le 4 s (at + 4)
+          → r ≡ tested_of left (least_size header section_type) section_type header size → r ≡ sized_at mode left s at
+      sized_long {header = header} eight eight_bytes typed n p =
+          let h : header ≡ header_length mode s at = eight_bytes ∙ sym (long_header_lem mode s at long) in
+          p ∙ rw (typed, h, n, ← long_size mode s at long) (sized_tested four (omega arith))

@@ -15,9 +15,9 @@ use Rattle.sections.specs.Header.{header_length, size_at, type_at, grown, least_
 use Rattle.sections.specs.Header.{data_offset, attributes, is_holder, contents_at, packed, wrong_contents, size_faults, head_faults, section_of, section_at}
 use Rattle.sections.specs.Header.{head_in, head_at, sized_at, holder_of, Lies}
 use Rattle.sections.specs.declared.header.Mode.{Mode}
-use Rattle.sections.specs.Header.{Size, Refused, Leaf, Holder}
-use Rattle.sections.specs.Header.{Head, Fault, Closed, Open}
-use Rattle.sections.proofs.types.Rows.{least_compression, least_guid, holder_guid, holds-compression}
+use Rattle.sections.specs.Header.{Refused, Sized, Head, Fault, Closed, Open, past_203}
+use Rattle.sections.specs.declared.header.Header.{Header}
+use Rattle.sections.proofs.types.Rows.{holds-compression, holds_guid}
 use Rattle.sections.proofs.header.Sizes.{header_range, Fits, size_none, none_fits}
 
 -- the header at a start, with `left` bytes left: a fault of the size reader; and past them what is left is 204 and the section
@@ -47,93 +47,65 @@ module _ (mode : Mode) (left : ℕ) (s : List ℕ) (at : ℕ) where
   unfolding holder_of
   in_holder f h = sym (in_past_203 f (wrong_contents s at (type_at s at) (header_length mode s at) (size_at mode s at)) (rw h))
 
-  -- by what the size reader answers
-  pub in_of_refused : {n : ℕ} → sized_at mode left s at ≡ Refused n → Fault n ≡ head_in mode left s at
-  unfolding sized_at
-  in_of_refused {n} p = go (first_refusal (size_faults mode left s at)) refl
-    where
-      go : (o : Option ℕ) → first_refusal (size_faults mode left s at) ≡ o → Fault n ≡ head_in mode left s at
-      go (some m) e =
-          let q : Refused m ≡ Refused n = rw e at p in
-          let k : n ≡ m = cc in
-          ap Fault k ∙ sym (in_refused e)
-      go none e = absurd (leaf_or_holder (is_holder (type_info (type_at s at)).class) (rw e at p))
-        where
-          leaf_or_holder : (b : Bool) → cond b (Holder (type_at s at) (header_length mode s at) (size_at mode s at))
-              (Leaf (type_at s at) (header_length mode s at) (size_at mode s at)) ≡ Refused n → ⊥
-          leaf_or_holder true q = let z : ◌≡◌ {A = ℕ} 0 1 = cc in absurd (omega arith)
-          leaf_or_holder false q = let z : ◌≡◌ {A = ℕ} 0 1 = cc in absurd (omega arith)
-
-  -- a leaf or a holder, as it was answered
-  pub record Sized (holder : Bool) (t h z : ℕ) : Type 0 where
+  -- by what the size reader answers: a refusal, or the header
+  pub record Headed (t h z : ℕ) : Type 0 where
     pub fits : Fits mode left s at
-    pub class : is_holder (type_info (type_at s at)).class ≡ holder
     pub typed : t ≡ type_at s at
     pub headed : h ≡ header_length mode s at
     pub sized : z ≡ size_at mode s at
 
-  sized_none : {r : Size} → sized_at mode left s at ≡ r → ((n : ℕ) → r ≡ Refused n → ⊥)
-      → (first_refusal (size_faults mode left s at) ≡ none)
-      × (cond (is_holder (type_info (type_at s at)).class) (Holder (type_at s at) (header_length mode s at) (size_at mode s at))
-      (Leaf (type_at s at) (header_length mode s at) (size_at mode s at)) ≡ r)
+  pub is_refused : {n : ℕ} → sized_at mode left s at ≡ Refused n → first_refusal (size_faults mode left s at) ≡ some n
   unfolding sized_at
-  sized_none {r} p other = go (first_refusal (size_faults mode left s at)) refl
+  is_refused {n} p = go (first_refusal (size_faults mode left s at)) refl
     where
-      go : (o : Option ℕ) → first_refusal (size_faults mode left s at) ≡ o
-          → (first_refusal (size_faults mode left s at) ≡ none)
-          × (cond (is_holder (type_info (type_at s at)).class) (Holder (type_at s at) (header_length mode s at) (size_at mode s at))
-          (Leaf (type_at s at) (header_length mode s at) (size_at mode s at)) ≡ r)
-      go (some m) e = let q : Refused m ≡ r = rw e at p in absurd (other m (sym q))
-      go none e = (e, rw e at p)
-
-  -- so the class tells which of the two it is
-  pub is_sized : (b : Bool) {t h z : ℕ} → sized_at mode left s at ≡ cond b (Holder t h z) (Leaf t h z) → Sized b t h z
-  is_sized b {t} {h} {z} p =
-      let x = sized_none p (not-refused b) in
-      go b (is_holder (type_info (type_at s at)).class) refl x.0 x.1
-    where
-      not-refused : (b : Bool) (n : ℕ) → cond b (Holder t h z) (Leaf t h z) ≡ Refused n → ⊥
-      not-refused true n q = let z : ◌≡◌ {A = ℕ} 0 1 = cc in absurd (omega arith)
-      not-refused false n q = let z : ◌≡◌ {A = ℕ} 0 1 = cc in absurd (omega arith)
-
-      go : (b c : Bool) → is_holder (type_info (type_at s at)).class ≡ c → first_refusal (size_faults mode left s at) ≡ none
-          → cond (is_holder (type_info (type_at s at)).class) (Holder (type_at s at) (header_length mode s at) (size_at mode s at))
-          (Leaf (type_at s at) (header_length mode s at) (size_at mode s at)) ≡ cond b (Holder t h z) (Leaf t h z) → Sized b t h z
-      go true true e f q =
-          let r : Holder (type_at s at) (header_length mode s at) (size_at mode s at) ≡ Holder t h z = rw e at q in
-          record { fits = none_fits mode left s at f; class = e; typed = cc; headed = cc; sized = cc }
-      go false false e f q =
-          let r : Leaf (type_at s at) (header_length mode s at) (size_at mode s at) ≡ Leaf t h z = rw e at q in
-          record { fits = none_fits mode left s at f; class = e; typed = cc; headed = cc; sized = cc }
-      go true false e f q =
-          let r : Leaf (type_at s at) (header_length mode s at) (size_at mode s at) ≡ Holder t h z = rw e at q in
-          let z : ◌≡◌ {A = ℕ} 0 1 = cc in absurd (omega arith)
-      go false true e f q =
-          let r : Holder (type_at s at) (header_length mode s at) (size_at mode s at) ≡ Leaf t h z = rw e at q in
+      go : (o : Option ℕ) → first_refusal (size_faults mode left s at) ≡ o → o ≡ some n
+      go (some m) e =
+          let q : Refused m ≡ Refused n = rw e at p in
+          let k : n ≡ m = cc in
+          rw k
+      go none e =
+          let q : Sized (type_at s at) (header_length mode s at) (size_at mode s at) ≡ Refused n = rw e at p in
           let z : ◌≡◌ {A = ℕ} 0 1 = cc in absurd (omega arith)
 
-  pub in_of_leaf : {t h z first end : ℕ} → sized_at mode left s at ≡ Leaf t h z → first ≡ at + h → end ≡ at + z → Closed t first end ≡ head_in mode left s at
-  in_of_leaf p f e =
-      let x = is_sized false p in
-      rw (f, e, x.typed, x.headed, x.sized) (sym (in_leaf x.fits x.class))
+  pub is_sized : {t h z : ℕ} → sized_at mode left s at ≡ Sized t h z → Headed t h z
+  unfolding sized_at
+  is_sized {t} {h} {z} p = go (first_refusal (size_faults mode left s at)) refl
+    where
+      go : (o : Option ℕ) → first_refusal (size_faults mode left s at) ≡ o → Headed t h z
+      go (some m) e =
+          let q : Refused m ≡ Sized t h z = rw e at p in
+          let z : ◌≡◌ {A = ℕ} 0 1 = cc in absurd (omega arith)
+      go none e =
+          let q : Sized (type_at s at) (header_length mode s at) (size_at mode s at) ≡ Sized t h z = rw e at p in
+          record { fits = none_fits mode left s at e; typed = cc; headed = cc; sized = cc }
 
-  pub in_of_holder : {t h z : ℕ} {r : Head} → sized_at mode left s at ≡ Holder t h z → r ≡ holder_of s at t h z → r ≡ head_in mode left s at
-  in_of_holder p q =
-      let x = is_sized true p in
-      q ∙ rw (x.typed, x.headed, x.sized) (sym (in_holder x.fits x.class))
+  pub in_of_refused : {n : ℕ} → Refused n ≡ sized_at mode left s at → Fault n ≡ head_in mode left s at
+  in_of_refused p = sym (in_refused (is_refused (sym p)))
 
-  -- a holder whose own fields are all read
-  pub in_lies : {t h z : ℕ} → sized_at mode left s at ≡ Holder t h z → at + least_size h t ≤ length s → at + left < 18446744073709551616 → Lies s at t h z
-  in_lies {t} {h} {z} p read bound =
-      let x = is_sized true p in
-      let f = x.fits in
+  pub in_of_sized : {x : Header} {r : Head} → Sized x.section_type x.length x.size ≡ sized_at mode left s at → r ≡ past_203 s at x → r ≡ head_in mode left s at
+  unfolding past_203
+  in_of_sized {x} {r} p q = go (is_holder (type_info (type_at s at)).class) refl
+    where
+      h : Headed x.section_type x.length x.size
+      h = is_sized (sym p)
+
+      go : (b : Bool) → is_holder (type_info (type_at s at)).class ≡ b → r ≡ head_in mode left s at
+      go true e = rw (h.typed, h.headed, h.sized, e) at q ∙ sym (in_holder h.fits e)
+      go false e = rw (h.typed, h.headed, h.sized, e) at q ∙ sym (in_leaf h.fits e)
+
+  -- its first bytes lie in the bytes that are read
+  pub in_lies : {x : Header} → Sized x.section_type x.length x.size ≡ sized_at mode left s at → at + least_size x.length x.section_type ≤ length s
+      → at + left < 18446744073709551616 → Lies s at x (type_info x.section_type).least
+  in_lies {x} p read bound =
+      let h = is_sized (sym p) in
+      let f = h.fits in
       let r = header_range mode s at in
-      let a = x.headed in
-      let b = x.sized in
-      let k : least_size h t ≡ least_size (header_length mode s at) (type_at s at) = rw (x.headed, x.typed) in
+      let a = h.headed in
+      let b = h.sized in
+      let k : least_size x.length x.section_type ≡ least_size (header_length mode s at) (type_at s at) = rw (h.headed, h.typed) in
       let l = f.least in
       let m = f.fits in
-      record { holds = rw x.typed x.class; header_least = omega arith; header_most = omega arith; least = omega arith; fields = read; bound = omega arith }
+      record { header_least = omega arith; header_most = omega arith; least = omega arith; fields = read; bound = omega arith }
 
 -- the same of a stream that is a list of bytes
 module _ (mode : Mode) (s : List ℕ) (at : ℕ) where
@@ -157,50 +129,32 @@ module _ (mode : Mode) (s : List ℕ) (at : ℕ) where
   unfolding head_at
   head_holder = in_holder mode (length s - at) s at
 
-  pub head_of_refused : {n : ℕ} → sized_at mode (length s - at) s at ≡ Refused n → Fault n ≡ head_at mode s at
+  pub head_of_refused : {n : ℕ} → Refused n ≡ sized_at mode (length s - at) s at → Fault n ≡ head_at mode s at
   unfolding head_at
   head_of_refused = in_of_refused mode (length s - at) s at
 
-  pub leaf_inside : {t h z : ℕ} → sized_at mode (length s - at) s at ≡ Leaf t h z → at < length s → (at + h ≤ length s) × (at + z ≤ length s)
-  leaf_inside p here =
-      let x = is_sized mode (length s - at) s at false p in
-      let a = x.headed in
-      let b = x.sized in
-      let l = x.fits.headed in
-      let m = x.fits.fits in
-      (omega arith, omega arith)
-
-  pub head_of_leaf : {t h z first end : ℕ} → sized_at mode (length s - at) s at ≡ Leaf t h z → first ≡ at + h → end ≡ at + z
-      → Closed t first end ≡ head_at mode s at
+  pub head_of_sized : {x : Header} {r : Head} → Sized x.section_type x.length x.size ≡ sized_at mode (length s - at) s at → r ≡ past_203 s at x → r ≡ head_at mode s at
   unfolding head_at
-  head_of_leaf = in_of_leaf mode (length s - at) s at
+  head_of_sized {x} = in_of_sized mode (length s - at) s at {x = x}
 
-  pub head_of_holder : {t h z : ℕ} {r : Head} → sized_at mode (length s - at) s at ≡ Holder t h z → r ≡ holder_of s at t h z → r ≡ head_at mode s at
-  unfolding head_at
-  head_of_holder = in_of_holder mode (length s - at) s at
+  pub lies : {x : Header} → Sized x.section_type x.length x.size ≡ sized_at mode (length s - at) s at → at < length s → length s < 18446744073709551616
+      → Lies s at x (type_info x.section_type).least
+  lies {x} p here bound =
+      let h = is_sized mode (length s - at) s at (sym p) in
+      let k : least_size x.length x.section_type ≡ least_size (header_length mode s at) (type_at s at) = rw (h.headed, h.typed) in
+      let l = h.fits.least in
+      let m = h.fits.fits in
+      in_lies mode (length s - at) s at {x = x} p (omega arith) (omega arith)
 
-  pub lies : {t h z : ℕ} → sized_at mode (length s - at) s at ≡ Holder t h z → at < length s → length s < 18446744073709551616 → Lies s at t h z
-  lies {t} {h} {z} p here bound =
-      let x = is_sized mode (length s - at) s at true p in
-      let k : least_size h t ≡ least_size (header_length mode s at) (type_at s at) = rw (x.headed, x.typed) in
-      let l = x.fits.least in
-      let m = x.fits.fits in
-      in_lies mode (length s - at) s at p (omega arith) (omega arith)
+-- past 203 a holder is what its own fields say, and a leaf is closed
+module _ (s : List ℕ) (at : ℕ) (x : Header) where
+  pub past_holder : {r : Head} → is_holder (type_info x.section_type).class ≡ true → r ≡ holder_of s at x.section_type x.length x.size → r ≡ past_203 s at x
+  unfolding past_203
+  past_holder holds p = p ∙ rw holds
 
--- the fields of the two holders lie in the bytes that are read
-pub lies_compression : {s : List ℕ} {at h z : ℕ} → Lies s at compression h z → (at + grown h 9 ≤ length s) × (grown h 9 ≤ z)
-lies_compression l =
-    let k = least_compression compression refl in
-    let a = l.fields in
-    let b = l.least in
-    (omega arith, omega arith)
-
-pub lies_guid : {s : List ℕ} {at t h z : ℕ} → Lies s at t h z → (t ≡ compression → ⊥) → (at + grown h 24 ≤ length s) × (grown h 24 ≤ z)
-lies_guid {t = t} l other =
-    let k = least_guid t (eq-eqb t guid_defined (holder_guid t l.holds (ne_eqb t compression other))) in
-    let a = l.fields in
-    let b = l.least in
-    (omega arith, omega arith)
+  pub past_leaf : is_holder (type_info x.section_type).class ≡ false → Closed x.section_type (at + x.length) (at + x.size) ≡ past_203 s at x
+  unfolding past_203
+  past_leaf holds = rw holds
 
 -- a holder by its own fields
 module _ (s : List ℕ) (at t h z : ℕ) (holds : is_holder (type_info t).class ≡ true) where
@@ -245,32 +199,32 @@ module _ (s : List ℕ) (at h z : ℕ) where
         holder_open _ _ _ _ _ holds fe ee (rw (n, f)) (sym c) (rw n)
 
 -- the GUID-defined section's own tests, over the data offset and the attributes that were read
-module _ (s : List ℕ) (at t h z : ℕ) (holds : is_holder (type_info t).class ≡ true) (other : t ≡ compression → ⊥) {offset : ℕ} (read : offset ≡ data_offset s (at + h)) where
-  is_other : eqb t compression ≡ false
-  is_other = ne_eqb t compression other
+module _ (s : List ℕ) (at h z : ℕ) {offset : ℕ} (read : offset ≡ data_offset s (at + h)) where
+  holds_too : is_holder (type_info guid_defined).class ≡ true
+  holds_too = holds_guid guid_defined refl
 
-  pub guid_204_low : offset < grown h 24 → Fault 204 ≡ holder_of s at t h z
+  pub guid_204_low : offset < grown h 24 → Fault 204 ≡ holder_of s at guid_defined h z
   unfolding wrong_contents
-  guid_204_low w = holder_204 _ _ _ _ _ holds (rw (is_other, lt-ltb (data_offset s (at + h)) (grown h 24) (rw read at w)))
+  guid_204_low w = holder_204 _ _ _ _ _ holds_too (rw (lt-ltb (data_offset s (at + h)) (grown h 24) (rw read at w)))
 
   module _ (low : grown h 24 ≤ offset) where
     is_low : ltb (data_offset s (at + h)) (grown h 24) ≡ false
     is_low = le-ltb _ _ (rw read at low)
 
-    pub guid_204_high : z < offset → Fault 204 ≡ holder_of s at t h z
+    pub guid_204_high : z < offset → Fault 204 ≡ holder_of s at guid_defined h z
     unfolding wrong_contents
-    guid_204_high w = holder_204 _ _ _ _ _ holds (rw (is_other, is_low, lt-ltb z (data_offset s (at + h)) (rw read at w)))
+    guid_204_high w = holder_204 _ _ _ _ _ holds_too (rw (is_low, lt-ltb z (data_offset s (at + h)) (rw read at w)))
 
     module _ (high : offset ≤ z) where
-      guid_right : wrong_contents s at t h z ≡ false
+      guid_right : wrong_contents s at guid_defined h z ≡ false
       unfolding wrong_contents
-      guid_right = rw (is_other, is_low, le-ltb z (data_offset s (at + h)) (rw read at high))
+      guid_right = rw (is_low, le-ltb z (data_offset s (at + h)) (rw read at high))
 
-      pub guid_packed : {first end : ℕ} → attributes s (at + h) % 2 ≡ 1 → first ≡ at + h → end ≡ at + z → Closed t first end ≡ holder_of s at t h z
+      pub guid_packed : {first end : ℕ} → attributes s (at + h) % 2 ≡ 1 → first ≡ at + h → end ≡ at + z → Closed guid_defined first end ≡ holder_of s at guid_defined h z
       unfolding packed
-      guid_packed w fe ee = holder_closed _ _ _ _ _ holds fe ee guid_right (rw (is_other, eq-eqb (attributes s (at + h) % 2) 1 w))
+      guid_packed w fe ee = holder_closed _ _ _ _ _ holds_too fe ee guid_right (rw (eq-eqb (attributes s (at + h) % 2) 1 w))
 
       pub guid_open : {first from end : ℕ} → (attributes s (at + h) % 2 ≡ 1 → ⊥) → first ≡ at + h → from ≡ at + offset → end ≡ at + z
-          → Open t first from end ≡ holder_of s at t h z
+          → Open guid_defined first from end ≡ holder_of s at guid_defined h z
       unfolding packed contents_at
-      guid_open w fe c ee = holder_open _ _ _ _ _ holds fe ee guid_right (rw (is_other, c, read)) (rw (is_other, ne_eqb (attributes s (at + h) % 2) 1 w))
+      guid_open w fe c ee = holder_open _ _ _ _ _ holds_too fe ee guid_right (rw (c, read)) (rw (ne_eqb (attributes s (at + h) % 2) 1 w))

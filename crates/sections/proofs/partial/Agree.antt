@@ -23,29 +23,13 @@ use Rattle.sections.proofs.types.Rows.{holder_guid}
 use Rattle.sections.proofs.header.Decided.{own_fields_lem, own_least}
 use Rattle.sections.proofs.header.Sizes.{Fits, header_range, short_size_lem, long_header_lem, long_size}
 use Rattle.sections.proofs.header.Tests.{in_refused, in_leaf, in_holder}
-use Rattle.sections.proofs.partial.Views.{says_201, says_201_long, Past, refuses, is_leaf, is_holder_lem, past, needed_header, needed_three, needed_most}
+use Rattle.sections.proofs.partial.Views.{says_201, says_201_long, Past, refuses, is_leaf, is_holder_lem, past, needed_header, needed_three, needed_most, own_holder, contents_own}
 
 -- what stands so many bytes later
 abbrev pub moved : ℕ → Head → Head
 moved a (Fault n) = Fault n
 moved a (Closed t first e) = Closed t (a + first) (a + e)
 moved a (Open t first from e) = Open t (a + first) (a + from) (a + e)
-
--- the own fields of a holder are those that 204 tests and, of a GUID-defined section, its attributes
-own_holder : (u : ℕ) → is_holder (type_info u).class ≡ true → own_fields u ≡ cond (eqb u compression) 5 20
-own_holder u l = go (eqb u compression) refl
-  where
-    go : (b : Bool) → eqb u compression ≡ b → own_fields u ≡ cond b 5 20
-    go true e = ap own_fields (eqb-true _ _ e) ∙ own_fields_lem.0
-    go false e = ap own_fields (holder_guid u l e) ∙ own_fields_lem.1
-
-contents_own : (u : ℕ) → is_holder (type_info u).class ≡ true → contents_fields u ≤ own_fields u
-unfolding contents_fields
-contents_own u l = rw (own_holder u l) (go (eqb u compression))
-  where
-    go : (b : Bool) → cond b 5 18 ≤ cond b 5 20
-    go true = omega arith
-    go false = omega arith
 
 -- a section needs its own fields
 section_fields : (s : List ℕ) (at u g w : ℕ) → fields_for u (section_of s at u g w) ≡ own_fields u

@@ -3,26 +3,29 @@ use Prim.Native.Nat.{ℕ, ◌+◌, ◌-◌, ◌≤◌, ◌<◌}
 use mathlib.Core.Path.{◌≡◌, refl, sym, ap, ◌∙◌}
 use mathlib.Core.Bool.{Bool, true, false, cond, not, ◌&&◌}
 use mathlib.Core.List.{List}
-use mathlib.Core.Option.{some}
+use mathlib.Core.Option.{Option, none, some, none-ne-some}
+use Rattle.std.specs.Prelude.{Option as OptionOf, None, Some}
 use mathlib.Core.Logic.{◌⊎◌, inl, inr}
 use native.Mathlib.Omega.{arith}
 use native.Mathlib.Nat.{add-zero}
-use borrow.Author.Tests.{lt-ltb, le-ltb, ltb-true, ltb-false, leb-true, leb-false, lt-leb, le-leb, ne_eqb}
+use borrow.Author.Tests.{lt-ltb, le-ltb, ltb-true, ltb-false, eqb-true, leb-true, leb-false, lt-leb, le-leb, ne_eqb}
 use lib.Dec.{eqb, leb, ltb}
 use Rattle.common.specs.Refusals.{first_refusal}
 use Rattle.sections.specs.Types.{compression, type_info}
 use Rattle.sections.specs.Header.{header_length, size_at, type_at, least_size, is_holder, own_fields, contents_at, packed, wrong_contents}
 use Rattle.sections.specs.Header.{size_faults, section_of, head_in, sized_at, holder_of}
-use Rattle.sections.specs.Partial.{contents_fields, bytes_for, bytes_for_head, needed, decided, fields_for, partial_holder, partial_of}
+use Rattle.sections.specs.Partial.{contents_fields, bytes_for, bytes_for_head, needed, decided, fields_for, partial_of}
 use Rattle.sections.specs.declared.types.TypeInfo.{TypeInfo}
 use Rattle.sections.specs.declared.header.Mode.{Mode}
 use Rattle.sections.specs.Header.{Head, Fault, Closed, Open}
-use Rattle.sections.specs.Header.{Refused, Leaf, Holder}
+use Rattle.sections.specs.Header.{Refused, Sized, opened, past_203}
+use Rattle.sections.specs.declared.header.Header.{Header}
+use Rattle.sections.specs.declared.header.Section.{Section}
 use Rattle.sections.specs.Partial.{Partial}
-use Rattle.sections.proofs.types.Rows.{least_range}
-use Rattle.sections.proofs.header.Decided.{own_least}
+use Rattle.sections.proofs.types.Rows.{least_range, holder_guid}
+use Rattle.sections.proofs.header.Decided.{own_fields_lem, own_least}
 use Rattle.sections.proofs.header.Sizes.{Fits, header_range, size_none, size_201, size_201_long, size_202, size_203}
-use Rattle.sections.proofs.header.Tests.{in_refused, in_leaf, in_holder, in_of_refused, is_sized}
+use Rattle.sections.proofs.header.Tests.{Headed, in_refused, in_leaf, in_holder, in_of_refused, is_refused, is_sized}
 
 module _ (mode : Mode) (left : ℕ) (s : List ℕ) (at : ℕ) where
   abbrev h : ℕ
@@ -112,18 +115,31 @@ module _ (mode : Mode) (left : ℕ) (s : List ℕ) (at : ℕ) where
         go (is_holder_lem f l x) = omega (arith, x.1)
 
     -- by what the size reader answers
-    pub says_refused : {n : ℕ} → sized_at mode left s at ≡ Refused n → Says (Fault n) h
-    unfolding sized_at
-    says_refused {n} p = (sym (in_of_refused mode left s at p), go past)
+    pub says_refused : {n : ℕ} → Refused n ≡ sized_at mode left s at → Says (Fault n) h
+    says_refused {n} p = go past
       where
-        other : (b : Bool) → cond b (Holder t h z) (Leaf t h z) ≡ Refused n → ⊥
-        other true q = let z : ◌≡◌ {A = ℕ} 0 1 = cc in absurd (omega arith)
-        other false q = let z : ◌≡◌ {A = ℕ} 0 1 = cc in absurd (omega arith)
+        r : first_refusal (size_faults mode left s at) ≡ some n
+        r = is_refused mode left s at (sym p)
 
-        go : Past → needed mode left s at ≡ h
-        go (refuses r x) = x.1
-        go (is_leaf f l x) = x.1
-        go (is_holder_lem f l x) = absurd (other true (rw (size_none mode left s at f, l) at p))
+        no_fit : Fits mode left s at → ⊥
+        no_fit f = let q : ◌≡◌ {A = Option ℕ} none (some n) = sym (size_none mode left s at f) ∙ r in none-ne-some n q
+
+        go : Past → Says (Fault n) h
+        go (refuses _ x) = (sym (in_of_refused mode left s at p), x.1)
+        go (is_leaf f _ x) = absurd (no_fit f)
+        go (is_holder_lem f _ x) = absurd (no_fit f)
+
+  pub says_past : {x : Header} {v : Head} → Sized x.section_type x.length x.size ≡ sized_at mode left s at → v ≡ past_203 s at x
+      → Says v (x.length + fields_for x.section_type v)
+  unfolding past_203 fields_for own_fields
+  says_past {x} {v} p q = go (is_holder (type_info t).class) refl
+    where
+      k : Headed mode left s at x.section_type x.length x.size
+      k = is_sized mode left s at (sym p)
+
+      go : (b : Bool) → is_holder (type_info t).class ≡ b → Says v (x.length + fields_for x.section_type v)
+      go true e = rw (rw (k.typed, k.headed, k.sized, e) at q, k.typed, k.headed) (says_holder k.fits e)
+      go false e = rw (rw (k.typed, k.headed, k.sized, e) at q, k.typed, k.headed, e, add-zero h) (says_leaf k.fits e)
 
   pub needed_three : 4 ≤ left → 3 ≤ needed mode left s at
   needed_three four = go (ltb left h) refl
@@ -161,25 +177,9 @@ module _ (mode : Mode) (left : ℕ) (s : List ℕ) (have : ℕ) where
         waits_header few = part_waits (let n = needed_header mode left s 0 four (omega arith) in omega arith)
 
         module _ (enough : h ≤ have) where
-          pub finds_refused : {n : ℕ} → sized_at mode left s 0 ≡ Refused n → Partial.Fault n ≡ partial_of mode s have left
+          pub finds_refused : {n : ℕ} → Refused n ≡ sized_at mode left s 0 → Partial.Fault n ≡ partial_of mode s have left
           unfolding decided
           finds_refused p = part_finds (says_refused mode left s 0 four (omega arith) p) (omega arith)
-
-          pub finds_leaf : {t g z : ℕ} → sized_at mode left s 0 ≡ Leaf t g z → Partial.Closed t g z ≡ partial_of mode s have left
-          unfolding decided
-          finds_leaf p =
-              let x = is_sized mode left s 0 false p in
-              let a : 0 + header_length mode s 0 ≡ header_length mode s 0 = omega arith in
-              let b : 0 + size_at mode s 0 ≡ size_at mode s 0 = omega arith in
-              rw (x.typed, x.headed, x.sized) (rw (a, b) at (part_finds (says_leaf mode left s 0 x.fits x.class) (omega arith)))
-
-          pub finds_holder : {t g z : ℕ} {r : Partial} → sized_at mode left s 0 ≡ Holder t g z → r ≡ partial_holder s have t g z
-              → r ≡ partial_of mode s have left
-          unfolding partial_holder partial_of
-          finds_holder p q =
-              let x = is_sized mode left s 0 true p in
-              let y = says_holder mode left s 0 x.fits x.class in
-              q ∙ rw (x.typed, x.headed, x.sized, y.1, y.0)
 
 -- the fields of the two holders
 module _ (u : ℕ) {r : ℕ} where
@@ -212,43 +212,82 @@ module _ (u : ℕ) {info : TypeInfo} (known : info ≡ type_info u) where
   unfolding own_fields
   own_of_leaf l = rw (rw known at l)
 
--- those of a holder, of which so many bytes came
-module _ (s : List ℕ) (have t h z : ℕ) where
-  waits : {x : Head} → x ≡ holder_of s 0 t h z → have < h + fields_for t x → Partial.Waiting ≡ partial_holder s have t h z
-  unfolding partial_holder
-  waits e few = rw (← e, lt-leb _ _ few)
+-- the own fields of a holder are those that 204 tests and, of a GUID-defined section, its attributes
+pub own_holder : (u : ℕ) → is_holder (type_info u).class ≡ true → own_fields u ≡ cond (eqb u compression) 5 20
+own_holder u l = go (eqb u compression) refl
+  where
+    go : (b : Bool) → eqb u compression ≡ b → own_fields u ≡ cond b 5 20
+    go true e = ap own_fields (eqb-true _ _ e) ∙ own_fields_lem.0
+    go false e = ap own_fields (holder_guid u l e) ∙ own_fields_lem.1
 
-  founds : {x : Head} → x ≡ holder_of s 0 t h z → h + fields_for t x ≤ have → decided x ≡ partial_holder s have t h z
-  unfolding partial_holder
-  founds e enough = rw (← e, le-leb _ _ enough)
+pub contents_own : (u : ℕ) → is_holder (type_info u).class ≡ true → contents_fields u ≤ own_fields u
+unfolding contents_fields
+contents_own u l = rw (own_holder u l) (go (eqb u compression))
+  where
+    go : (b : Bool) → cond b 5 18 ≤ cond b 5 20
+    go true = omega arith
+    go false = omega arith
 
-  module _ {x : Head} (e : x ≡ holder_of s 0 t h z) where
-    module _ {tested n : ℕ} (p : x ≡ Fault n) (q : tested ≡ h + contents_fields t) where
-      pub waits_204 : have < tested → Partial.Waiting ≡ partial_holder s have t h z
-      unfolding fields_for
-      waits_204 few = waits (sym p ∙ e) (omega arith)
+-- how many bytes decide 204, as the code counts them: of a leaf it reads none
+abbrev pub tested_fields : ℕ → ℕ
+tested_fields u = cond (is_holder (type_info u).class) (contents_fields u) 0
 
-      pub finds_204 : tested ≤ have → Partial.Fault n ≡ partial_holder s have t h z
-      unfolding fields_for decided
-      finds_204 enough = founds (sym p ∙ e) (omega arith)
+pub tested_holder : (u : ℕ) {r : ℕ} → is_holder (type_info u).class ≡ true → r ≡ contents_fields u → r ≡ tested_fields u
+tested_holder u e p = p ∙ rw e
 
-    module _ {own u first end : ℕ} (p : x ≡ Closed u first end) (q : own ≡ h + own_fields t) where
-      pub waits_closed : have < own → Partial.Waiting ≡ partial_holder s have t h z
-      unfolding fields_for
-      waits_closed few = waits (sym p ∙ e) (omega arith)
+pub tested_leaf : (u : ℕ) → is_holder (type_info u).class ≡ false → 0 ≡ tested_fields u
+tested_leaf u e = rw e
 
-      pub finds_closed : own ≤ have → Partial.Closed u first end ≡ partial_holder s have t h z
-      unfolding fields_for decided
-      finds_closed enough = founds (sym p ∙ e) (omega arith)
+pub tested_most : (u : ℕ) → tested_fields u ≤ 20
+tested_most u = go (is_holder (type_info u).class)
+  where
+    go : (b : Bool) → cond b (contents_fields u) 0 ≤ 20
+    go true = contents_most u
+    go false = omega arith
 
-    module _ {own u first from end : ℕ} (p : x ≡ Open u first from end) (q : own ≡ h + own_fields t) where
-      pub waits_open : have < own → Partial.Waiting ≡ partial_holder s have t h z
-      unfolding fields_for
-      waits_open few = waits (sym p ∙ e) (omega arith)
+tested_least : (u : ℕ) (v : Head) → tested_fields u ≤ fields_for u v
+unfolding fields_for
+tested_least u v = go (is_holder (type_info u).class) refl v
+  where
+    go : (b : Bool) → is_holder (type_info u).class ≡ b → (v : Head) → cond b (contents_fields u) 0 ≤ fields_for u v
+    go false e v = omega arith
+    go true e (Fault n) = omega arith
+    go true e (Closed w first end) = contents_own u e
+    go true e (Open w first from end) = contents_own u e
 
-      pub finds_open : own ≤ have → Partial.Open u first from end ≡ partial_holder s have t h z
-      unfolding fields_for decided
-      finds_open enough = founds (sym p ∙ e) (omega arith)
+-- the code's tests of a section that passed 201 to 203, of which so many bytes came
+module _ (mode : Mode) (left : ℕ) (s : List ℕ) (have : ℕ) {x : Header} (p : Sized x.section_type x.length x.size ≡ sized_at mode left s 0) where
+  pub waits_tested : {k : ℕ} → k ≡ tested_fields x.section_type → have < x.length + k → Partial.Waiting ≡ partial_of mode s have left
+  waits_tested e few =
+      let l = tested_least x.section_type (past_203 s 0 x) in
+      part_waits mode left s have (omega (arith, (says_past mode left s 0 {x = x} p refl).1))
+
+  pub finds_204 : {k n : ℕ} → k ≡ tested_fields x.section_type → x.length + k ≤ have → Fault n ≡ past_203 s 0 x → Partial.Fault n ≡ partial_of mode s have left
+  unfolding past_203 fields_for decided
+  finds_204 {k} {n} e enough q = go (is_holder (type_info x.section_type).class) refl
+    where
+      go : (b : Bool) → is_holder (type_info x.section_type).class ≡ b → Partial.Fault n ≡ partial_of mode s have left
+      go true h =
+          let j : k ≡ contents_fields x.section_type = rw h at e in
+          part_finds mode left s have (says_past mode left s 0 {x = x} p q) (omega arith)
+      go false h =
+          let f : Fault n ≡ Closed x.section_type (0 + x.length) (0 + x.size) = rw h at q in
+          let z : ◌≡◌ {A = ℕ} 0 1 = cc in absurd (omega arith)
+
+  module _ (y : Section) {k : ℕ} (e : k ≡ own_fields x.section_type) (q : opened y.section_type y.first y.end y.contents ≡ past_203 s 0 x) where
+    own : fields_for x.section_type (opened y.section_type y.first y.end y.contents) ≡ own_fields x.section_type
+    unfolding fields_for
+    own = go y.contents
+      where
+        go : (o : OptionOf ℕ) → fields_for x.section_type (opened y.section_type y.first y.end o) ≡ own_fields x.section_type
+        go None = refl
+        go (Some from) = refl
+
+    pub waits_own : have < x.length + k → Partial.Waiting ≡ partial_of mode s have left
+    waits_own few = part_waits mode left s have (omega (arith, (says_past mode left s 0 {x = x} p q).1, own))
+
+    pub finds_section : x.length + k ≤ have → decided (opened y.section_type y.first y.end y.contents) ≡ partial_of mode s have left
+    finds_section enough = part_finds mode left s have (says_past mode left s 0 {x = x} p q) (omega (arith, own))
 
 -- no header needs more than 28 bytes
 pub fields_most : (u : ℕ) (x : Head) → fields_for u x ≤ 20

@@ -1,22 +1,28 @@
 -- What a search shows: the code's answer is the definition's; a part that is shown lies inside the stream; an instance of a type is
 -- found exactly when it is below the number of sections of that type; the first fault, and 14.
 use Prim.Native.Nat.{ℕ, zero, suc, ◌+◌, ◌≤◌, ◌<◌}
-use mathlib.Core.Path.{◌≡◌, refl, sym}
+use mathlib.Core.Path.{◌≡◌, refl, sym, ap, ◌∙◌}
 use mathlib.Core.Bool.{Bool, true, false, cond}
 use mathlib.Core.List.{List, [], ◌∷◌}
 use mathlib.Core.Logic.{◌↔◌}
 use mathlib.Core.Option.{Option, none, some}
 use native.Mathlib.Omega.{arith}
+use Rattle.std.specs.Prelude.{None as NoneOf, Result, IsErrAnd}
+use Rattle.std.proofs.lemmas.Result.{err_from_is_err_and}
+use Rattle.common.specs.Refusal.{number}
+use Rattle.common.specs.declared.refusal.Refusal.{Refusal}
+use Rattle.sections.specs.declared.search.Part.{Part}
 use borrow.Author.Tests.{lt-ltb, le-ltb, ltb-true, ltb-false}
 use lib.Dec.{eqb, ltb}
 use lib.ListN.{length, get_elem?}
 use Rattle.common.specs.Answers.{refused, success, number_of}
 use Rattle.common.specs.Refusals.{unless_refused}
 use Rattle.sections.specs.Walk.{Trace, done, fault, section, walk, stream_limit, stream_walk}
-use Rattle.sections.specs.Seek.{Seek, Left, halted, run, carried, seek_answer}
-use Rattle.sections.specs.Search.{Section, sections, first_fault, of_type, part_answer, search_of, WellFormed, count_of}
+use Rattle.sections.specs.Seek.{Refused, Left, run, carried, seek_answer}
+use Rattle.sections.specs.declared.walk.Wanted.{Wanted}
+use Rattle.sections.specs.Search.{Section, sections, first_fault, of_type, part_answer, search_of, found_answer, WellFormed, count_of}
 use Rattle.sections.specs.declared.header.Mode.{Mode}
-use Rattle.sections.proofs.walk.Carried.{words_start, run_answer}
+use Rattle.sections.proofs.walk.Carried.{carried_fault, run_answer}
 use Rattle.sections.proofs.walk.Inside.{Inside, inside_walk}
 
 -- a section of a type on the walk lies where the walk does
@@ -62,21 +68,25 @@ module _ (mode : Mode) where
   unfolding search_of stream_walk first_fault
   search_206 s t instance h = rw (lt-ltb (stream_limit mode) (length s) h)
 
-  pub sought_206 : (s : List ℕ) (w stop i : ℕ) → stream_limit mode < length s → refused 206 ≡ seek_answer (run w (Left stop i) (stream_walk mode s))
-  unfolding stream_walk run halted seek_answer
-  sought_206 s w stop i h = rw (lt-ltb (stream_limit mode) (length s) h)
-
-  pub sought_walk : (s : List ℕ) (w stop i : ℕ) {below base : ℕ} {a : Seek} → a ≡ run w (carried 0 (i ∷ 0 ∷ 0 ∷ stop ∷ [])) (walk mode below s base)
-      → below ≡ 7 → base ≡ 0 → length s ≤ stream_limit mode → seek_answer a ≡ seek_answer (run w (Left stop i) (stream_walk mode s))
-  unfolding stream_walk
-  sought_walk s w stop i walked l b h = rw (walked, words_start stop i, l, b, le-ltb (stream_limit mode) (length s) h)
+  pub sought_206 : (s : List ℕ) (x : Wanted) → stream_limit mode < length s → refused 206 ≡ seek_answer (run x.section_type (carried NoneOf x) (stream_walk mode s))
+  unfolding stream_walk run seek_answer
+  sought_206 s x h = rw (lt-ltb (stream_limit mode) (length s) h, ← carried_fault 206 x)
 
   -- what is sought, as the walk through the stream has it
-  pub sought_left : (s : List ℕ) (w stop i : ℕ) → length s ≤ stream_limit mode
-      → seek_answer (run w (Left stop i) (stream_walk mode s)) ≡ seek_answer (run w (carried 0 (i ∷ 0 ∷ 0 ∷ stop ∷ [])) (walk mode 7 s 0))
-  sought_left s w stop i h = sym (sought_walk s w stop i refl refl refl h)
+  pub sought_walk : (s : List ℕ) (x : Wanted) → length s ≤ stream_limit mode
+      → seek_answer (run x.section_type (carried NoneOf x) (walk mode 7 s 0)) ≡ seek_answer (run x.section_type (carried NoneOf x) (stream_walk mode s))
+  unfolding stream_walk
+  sought_walk s x h = rw (le-ltb (stream_limit mode) (length s) h)
 
-  pub search_from : (s : List ℕ) (t instance : ℕ) → seek_answer (run t (Left 0 instance) (stream_walk mode s)) ≡ search_of mode s t instance
+  pub sought_fault : (s : List ℕ) (x : Wanted) (r : Result Part Refusal) (e : Refusal) → IsErrAnd r (λ y. y ≡ e) → length s ≤ stream_limit mode
+      → Refused (number e) ≡ run x.section_type (carried NoneOf x) (walk mode 7 s 0)
+      → found_answer r ≡ seek_answer (run x.section_type (carried NoneOf x) (stream_walk mode s))
+  unfolding seek_answer
+  sought_fault s x r e p h walked =
+      let q = err_from_is_err_and r p in
+      rw (q.1, q.2) (ap seek_answer walked ∙ sought_walk s x h)
+
+  pub search_from : (s : List ℕ) (t instance : ℕ) → seek_answer (run t (Left false instance) (stream_walk mode s)) ≡ search_of mode s t instance
   unfolding search_of
   search_from s t instance = run_answer t instance (stream_walk mode s)
 

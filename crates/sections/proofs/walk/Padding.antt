@@ -1,35 +1,19 @@
 -- Laws of padding: the test that its bytes are zero, byte by byte, the first that is not, and what follows a section by that test.
-use Prim.Native.Nat.{ℕ, zero, suc, ◌+◌, ◌-◌, ◌≤◌, ◌<◌}
+use Prim.Native.Nat.{ℕ, zero, suc, ◌+◌, ◌-◌, ◌≤◌, ◌<◌, min}
 use mathlib.Core.Path.{◌≡◌, refl, sym}
 use mathlib.Core.Bool.{Bool, true, false, cond, ◌&&◌}
 use mathlib.Core.List.{List}
 use mathlib.Core.Option.{Option, none, some}
-use native.Mathlib.Nat.{add-zero, sub-zero}
+use Rattle.std.proofs.Common.{add-one}
 use native.Mathlib.Omega.{arith}
-use borrow.Author.Tests.{eq-eqb, ne_eqb, eqb-true, eqb-false}
-use lib.Dec.{eqb}
-use lib.ListN.{length, get_or, get_or-eq_default}
+use borrow.Author.Tests.{eqb-true, eqb-false, ltb-true, ltb-false}
+use lib.Dec.{eqb, ltb}
+use lib.ListN.{length, get_or, take, drop, get_or-eq_default, length-drop, drop_of_length-le}
+use lib.Seq.{drop-cons}
+use Rattle.std.specs.List.{list_all}
+use Rattle.std.proofs.lemmas.List.{take_min}
 use Rattle.sections.specs.Walk.{Trace, fault, aligned, zeros, first_nonzero, after_padding}
 use Rattle.sections.specs.Search.{first_fault}
-
--- the test of n bytes from `at` on, with i of them passed: its start, its end, and a byte that is 0 or not
-pub zeros_whole : (s : List ℕ) (at n : ℕ) → zeros s (at + 0) (n - 0) ≡ zeros s at n
-zeros_whole s at n = rw (add-zero, sub-zero)
-
-pub zeros_end : (s : List ℕ) (at n i : ℕ) → n ≤ i → true ≡ zeros s (at + i) (n - i)
-unfolding zeros
-zeros_end s at n i h = let e : n - i ≡ 0 = omega arith in rw e
-
-pub zeros_more : (s : List ℕ) (at n i : ℕ) → i < n → get_or s (at + i) 0 ≡ 0 → zeros s (at + (i + 1)) (n - (i + 1)) ≡ zeros s (at + i) (n - i)
-unfolding zeros
-zeros_more s at n i h b =
-    let e : n - i ≡ suc (n - (i + 1)) = omega arith in
-    let q : at + (i + 1) ≡ at + i + 1 = omega arith in
-    rw (e, eq-eqb (get_or s (at + i) 0) 0 b, q)
-
-pub zeros_stop : (s : List ℕ) (at n i : ℕ) → i < n → (get_or s (at + i) 0 ≡ 0 → ⊥) → false ≡ zeros s (at + i) (n - i)
-unfolding zeros
-zeros_stop s at n i h b = let e : n - i ≡ suc (n - (i + 1)) = omega arith in rw (e, ne_eqb (get_or s (at + i) 0) 0 b)
 
 -- the test looks at those bytes alone
 pub zeros-same : (s s' : List ℕ) (at n : ℕ) → ((i : ℕ) → at ≤ i → i < at + n → get_or s i 0 ≡ get_or s' i 0) → zeros s at n ≡ zeros s' at n
@@ -74,8 +58,23 @@ unfolding zeros
 zeros_past s at zero h = refl
 zeros_past s at (suc n) h = rw (get_or-eq_default s 0 h) (zeros_past s (at + 1) n (omega arith))
 
-pub zeros_ended : (s : List ℕ) (at n i : ℕ) → length s ≤ at + i → true ≡ zeros s (at + i) (n - i)
-zeros_ended s at n i h = sym (zeros_past s (at + i) (n - i) h)
+-- so the test is one of the bytes that are there
+zeros_all : (s : List ℕ) (at n : ℕ) → zeros s at n ≡ list_all (λ b. eqb b 0) (take n (drop at s))
+unfolding zeros
+zeros_all s at zero = refl
+zeros_all s at (suc n) = go (ltb at (length s)) refl (zeros_all s (at + 1) n)
+  where
+    go : (b : Bool) → ltb at (length s) ≡ b → zeros s (at + 1) n ≡ list_all (λ b. eqb b 0) (take n (drop (at + 1) s))
+        → eqb (get_or s at 0) 0 && zeros s (at + 1) n ≡ list_all (λ b. eqb b 0) (take (suc n) (drop at s))
+    go true e ih = let h = ltb-true at (length s) e in rw (drop-cons s at 0 h, ih, add-one)
+    go false e ih =
+        let h = ltb-false at (length s) e in
+        rw (drop_of_length-le s {i = at} h, zeros_past s (at + 1) n (omega arith), get_or-eq_default s 0 h)
+
+pub zeros_padding : (s : List ℕ) (at next m : ℕ) → m ≡ min next (length s) → zeros s at (next - at) ≡ list_all (λ b. eqb b 0) (take (m - at) (drop at s))
+zeros_padding s at next m e =
+    let k : m - at ≡ min (next - at) (length (drop at s)) = rw length-drop (omega arith) in
+    rw (k, take_min) (zeros_all s at (next - at))
 
 -- after a section that ends at byte e: the walk at the next start, or 207
 pub padding_zero : (s : List ℕ) (base e : ℕ) (rest : ℕ → Trace) → zeros s e (aligned e - e) ≡ true → after_padding s base e rest ≡ rest (aligned e)

@@ -12,4 +12,4 @@ pub returns : goal.returns
 returns c =
     let from = c.aligned-start.result + c.args.header in
     leaf_stored _ _ _ _ _ _ _ _ _ _ from (from + length c.args.body.now - from) c.requires.0 c.store.ensures
-    c.store_header.ensures c.move_bytes.ensures c.aligned-start.ensures (search rules) (search rules) (search rules) (search rules)
+    c.store_header.ensures c.copy_from_slice.ensures.after c.aligned-start.ensures (search rules) (search rules) (search rules) (search rules)

@@ -1,0 +1,24 @@
+-- `read_header` meets its contract: 201, and past it what `tested` answers of the size in the header that is there.
+use mathlib.Core.Path.{refl, sym, ◌∙◌}
+use Rattle.sections.proofs.header.Sizes.{sized_201, sized_201_long, sized_short, sized_long}
+use borrow.Author.Rules.{rules}
+use Rattle.sections.proofs.header.read_header.Goals as goal
+
+pub returns-then-left-lt-COMMON_HEADER : goal.returns-then-left-lt-COMMON_HEADER
+returns-then-left-lt-COMMON_HEADER c = sized_201 _ _ _ _ (search rules)
+
+pub returns-then-not-is_long : goal.returns-then-not-is_long
+returns-then-not-is_long c =
+    let read = c.u24_byte_at-start.ensures in
+    sized_short _ _ _ _ (search rules) read.0 (sym c.is_long.ensures ∙ c.if-not-is_long.true) refl read.1 c.tested.ensures
+
+pub returns-then-left-lt-LONG_HEADER : goal.returns-then-left-lt-LONG_HEADER
+returns-then-left-lt-LONG_HEADER c =
+    let read = c.u24_byte_at-start.ensures in
+    sized_201_long _ _ _ _ (search rules) read.0 (sym c.is_long.ensures ∙ c.if-not-is_long.false) (search rules)
+
+pub returns : goal.returns
+returns c =
+    let read = c.u24_byte_at-start.ensures in
+    sized_long _ _ _ _ (search rules) read.0 (sym c.is_long.ensures ∙ c.if-not-is_long.false) (search rules) refl read.1
+    c.u32_at-size.ensures c.tested-2.ensures
