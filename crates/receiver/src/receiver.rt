@@ -151,11 +151,13 @@ impl Receiver {
         ensures { Taken (receiver_of self.old) bytes.now (receiver_of self.new) result }
     {
         match self.place.phase {
-            Phase::Header(0) if LONGEST_HEADER <= bytes.len() => self.whole_header(bytes),
-            Phase::Header(have) => {
-                self.header_byte(have, bytes[0]);
-                1
-            }
+            Phase::Header(have) => match bytes.first_chunk() {
+                Some(header) if have == 0 => self.whole_header(header),
+                _ => {
+                    self.header_byte(have, bytes[0]);
+                    1
+                }
+            },
             Phase::Body(n) => self.place.pass_body(n, bytes.len()),
             Phase::Padding(n) => {
                 self.place.pass_padding(n, bytes[0]);
@@ -169,14 +171,13 @@ impl Receiver {
         }
     }
 
-    // A header of which no byte is held, at the start of the bytes.
-    fn whole_header(&mut self, bytes: &[u8]) -> usize
-        requires { (self.old.place.depth ≤ 8) × (28 ≤ length bytes.now) }
-        ensures used { let r = receiver_of self.old in result ≡ header_bytes (partial_of r.mode (take 28 bytes.now) 28 r.place.left) }
-        ensures receiver { let r = receiver_of self.old in let look = partial_of r.mode (take 28 bytes.now) 28 r.place.left in receiver_of self.new ≡ looked r (take 28 bytes.now) (header_bytes look) look }
+    // The header at the start of these bytes, none of which is held: how many it has.
+    fn whole_header(&mut self, bytes: &[u8; LONGEST_HEADER]) -> usize
+        requires { self.old.place.depth ≤ 8 }
+        ensures used { let r = receiver_of self.old in result ≡ header_bytes (partial_of r.mode bytes.now 28 r.place.left) }
+        ensures receiver { let r = receiver_of self.old in let look = partial_of r.mode bytes.now 28 r.place.left in receiver_of self.new ≡ looked r r.header (header_bytes look) look }
     {
-        self.header.copy_from_slice(&bytes[..LONGEST_HEADER]);
-        let look = read_partial(self.mode, &self.header, LONGEST_HEADER, self.place.left);
+        let look = read_partial(self.mode, bytes, LONGEST_HEADER, self.place.left);
         let used = header_bytes(&look);
         self.look(used, look);
         used

@@ -1,7 +1,7 @@
 -- What a receiver takes at once comes to the same as its bytes one after the other.
 use Rattle.std.proofs.Common.{◌≡◌, ℕ, zero, suc, ◌+◌, ◌-◌, ◌<◌, ◌≤◌, Bool, true, false, cond, eqb, ltb, List, [], ◌∷◌, length, get_or, take, drop, refl, ap, ◌∙◌, add-zero, add-one, arith, length-drop, get_or-drop, drop-cons, drop-drop, ltb-false, ltb-true, ne_eqb, eqb-true}
 use lib.Seq.{drop-length}
-use Rattle.sections.specs.Partial.{Partial}
+use Rattle.sections.specs.Partial.{partial_of, Partial}
 use Rattle.receiver.specs.Place.{with_phase, onwards, Phase, Header, Body, Padding, Complete, Exceeded, Refused, Place}
 use Rattle.receiver.specs.Receiver.{at_place, stepped, fed, looked, padding_step, Receiver}
 use Rattle.receiver.specs.Steps.{Taken, body_place, body_used, header_bytes}
@@ -56,11 +56,20 @@ module _ (r : Receiver) (s : List ℕ) (f : Fits r.place) where
           rw (ne_eqb (suc m) 0 (λ z. omega arith))
           (record { same = fed_all r m s e enough; whole = fits_sound _ (there_fits r.place f.0); some = omega arith; within = enough })
 
-  pub header_taken : {used : ℕ} {x : Receiver} → r.place.phase ≡ Header 0 → length r.header ≡ 28 → 28 ≤ length s
-      → used ≡ header_bytes (look_at r s) → x ≡ looked r (take 28 s) (header_bytes (look_at r s)) (look_at r s) → Taken r s x used
-  header_taken e held enough u q =
+  -- a header, whatever was held before
+  looked_found : (held : List ℕ) (have : ℕ) (look : Partial) → (look ≡ Partial.Waiting → ⊥) → looked r r.header have look ≡ looked r held have look
+  unfolding looked
+  looked_found held have Partial.Waiting o = absurd (o refl)
+  looked_found held have (Partial.Fault n) o = refl
+  looked_found held have (Partial.Closed t first e) o = refl
+  looked_found held have (Partial.Open t first from e) o = refl
+
+  pub header_taken : {header : List ℕ} {used : ℕ} {x : Receiver} → r.place.phase ≡ Header 0 → length r.header ≡ 28 → 28 ≤ length s → header ≡ take 28 s
+      → used ≡ header_bytes (partial_of r.mode header 28 r.place.left)
+      → x ≡ looked r r.header (header_bytes (partial_of r.mode header 28 r.place.left)) (partial_of r.mode header 28 r.place.left) → Taken r s x used
+  header_taken {header} e held enough h u q =
       let w = whole_header r s e held enough in
-      rw (q, u)
+      rw (q, u, h, looked_found (take 28 s) (header_bytes (look_at r s)) (look_at r s) w.3)
       (record {
         same = w.0;
         whole = fits_sound _ (looked_fits r f.0 (take 28 s) (header_bytes (look_at r s)) (look_at r s) (λ z. absurd (w.3 z)));
