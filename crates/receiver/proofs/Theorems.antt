@@ -10,8 +10,7 @@ use Rattle.sections.specs.Search.{sections, first_fault, of_type, search_of}
 use Rattle.sections.specs.Walk.{stream_limit, stream_walk}
 use Rattle.sections.specs.declared.header.Mode.{Mode}
 use Rattle.receiver.specs.Received.{EndsIn, joined, file_of, found_after, found_fault, found_of, fault_number, received_of, with_count}
-use Rattle.receiver.specs.Receiver.{announced, announce_of, fed, sound, portions_of, finish_of, fault_of}
-use Rattle.receiver.specs.declared.receiver.Receiver.{Receiver}
+use Rattle.receiver.specs.Receiver.{announced, announce_of, fed, sound, portions_of, finish_of, fault_of, Receiver}
 use Rattle.receiver.proofs.receiver.Faults as faults
 use Rattle.receiver.proofs.receiver.Holders as holders
 use Rattle.receiver.proofs.receiver.Portions as portions

@@ -1,14 +1,54 @@
 -- Where in the file a receiver is, and what comes next there.
-use Rattle.std.specs.Prelude.{ℕ, zero, suc, ◌+◌, ◌-◌, cond, List, ◌==◌, nat_le, nat_lt, slice_index, slice_index_or, slice_set}
+use Rattle.std.specs.Prelude.{ℕ, zero, suc, ◌+◌, ◌-◌, cond, List, map, ◌==◌, nat_le, nat_lt, slice_index, slice_index_or, slice_set}
+use Rattle.common.specs.Refusal.{number}
 use Rattle.sections.specs.Types.{common_header}
 use Rattle.sections.specs.Walk.{aligned}
 use Rattle.receiver.specs.Tally.{wrapped}
-use Rattle.receiver.specs.declared.place.Phase.{Phase}
-use Rattle.receiver.specs.declared.place.Phase.TheVariants.{Header, Body, Padding, Complete, Refused}
-use Rattle.receiver.specs.declared.place.Place.{Place}
+use Rattle.receiver.specs.declared.place.Level.{Level}
+use Rattle.receiver.specs.declared.place.Phase as Code
+use Rattle.receiver.specs.declared.place.Phase.TheVariants as P
+use Rattle.receiver.specs.declared.place.Place as Held
+
+-- what comes next: the rest of a section's header, of which so many bytes are there; so many bytes up to a section's contents or, where they are
+-- not searched, its end; so many bytes of padding; nothing; more bytes than were announced came; or a fault was found
+pub data Phase : Type 0 where
+  Header : (have : ℕ) → Phase
+  Body : (n : ℕ) → Phase
+  Padding : (n : ℕ) → Phase
+  Complete : Phase
+  Exceeded : Phase
+  Refused : (number : ℕ) → Phase
+
+-- a byte of the file, how many bytes are left in the stream that it is in, and of each of `depth` sections that are entered what follows it in the stream that
+-- holds it: padding, and the bytes behind that
+pub record Place : Type 0 where
+  pub phase : Phase
+  pub at : ℕ
+  pub left : ℕ
+  pub depth : ℕ
+  pub lefts : List ℕ
+  pub pads : List ℕ
 
 abbrev pub placed : Phase → (at left depth : ℕ) → (lefts pads : List ℕ) → Place
 placed phase at left depth lefts pads = record { phase = phase; at = at; left = left; depth = depth; lefts = lefts; pads = pads }
+
+-- what the code's enum and struct have, whose faults are refusals, and whose levels are structs
+abbrev pub phase_of : Code.Phase → Phase
+phase_of (P.Header have) = Header have
+phase_of (P.Body n) = Body n
+phase_of (P.Padding n) = Padding n
+phase_of P.Complete = Complete
+phase_of P.Exceeded = Exceeded
+phase_of (P.Refused refusal) = Refused (number refusal)
+
+abbrev pub lefts_of : List Level → List ℕ
+lefts_of levels = map (λ (l : Level). l.left) levels
+
+abbrev pub pads_of : List Level → List ℕ
+pads_of levels = map (λ (l : Level). l.pad) levels
+
+abbrev pub place_of : Held.Place → Place
+place_of p = placed (phase_of p.phase) p.at p.left p.depth (lefts_of p.levels) (pads_of p.levels)
 
 -- the same place, with what comes next
 abbrev pub with_phase : Place → Phase → Place
@@ -27,6 +67,9 @@ arrived (suc d) at left lefts pads =
     let padded = placed (Padding pad) (wrapped (at + pad)) (slice_index lefts d) d lefts pads in
     let outwards = cond (pad == 0) (arrived d at (slice_index lefts d) lefts pads) padded in
     cond (left == 0) outwards (started at left (suc d) lefts pads)
+
+abbrev pub onwards : Place → Place
+onwards p = arrived p.depth p.at p.left p.lefts p.pads
 
 -- the padding after a section of `size` bytes that starts on a multiple of 4, with `behind` bytes after it in its stream: "padding cut off by
 -- the stream's end is fine"

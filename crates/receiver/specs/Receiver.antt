@@ -1,22 +1,25 @@
 -- What each call does to a receiver, whatever its fields are: byte by byte, so that how a file is cut changes nothing.
-use Rattle.std.specs.Prelude.{ℕ, ◌+◌, ◌-◌, Bool, false, cond, ◌&&◌, List, [], ◌∷◌, replicate, ◌==◌, nat_le, nat_lt, slice_set}
+use Rattle.std.specs.Prelude.{ℕ, ◌+◌, ◌-◌, Bool, false, cond, ◌&&◌, List, [], ◌∷◌, replicate, ◌==◌, nat_le, nat_lt, slice_set, Option, Some, None, Result, Ok, Err}
 use Rattle.common.specs.Answers.{Answer, success}
 use Rattle.common.specs.Answers as Answers
-use Rattle.sections.specs.Partial.{partial_of}
+use Rattle.common.specs.Refusal.{number}
+use Rattle.common.specs.declared.refusal.Refusal.{Refusal}
+use Rattle.sections.specs.Partial.{partial_of, Partial, Waiting, Fault, Closed, Open}
 use Rattle.sections.specs.Walk.{stream_limit}
 use Rattle.sections.specs.declared.header.Mode.{Mode}
 use Rattle.sections.specs.declared.header.Mode.TheVariants.{Framework}
-use Rattle.sections.specs.declared.partial.Partial.{Partial}
-use Rattle.sections.specs.declared.partial.Partial.TheVariants.{Waiting, Fault, Closed, Open}
-use Rattle.receiver.specs.Tally.{wrapped, visited}
-use Rattle.receiver.specs.Place.{placed, with_phase, arrived, entered}
-use Rattle.receiver.specs.declared.tally.Tally.{Tally}
-use Rattle.receiver.specs.declared.place.Phase.{Phase}
-use Rattle.receiver.specs.declared.place.Phase.TheVariants.{Header, Body, Padding, Complete, Exceeded, Refused}
-use Rattle.receiver.specs.declared.place.Place.{Place}
-use Rattle.receiver.specs.declared.receiver.Receiver.{Receiver}
-use Rattle.receiver.specs.declared.receiver.Announcement.{Announcement}
+use Rattle.receiver.specs.Tally.{Tally, tally_of, wrapped, visited}
+use Rattle.receiver.specs.Place.{Phase, Header, Body, Padding, Complete, Exceeded, Refused, Place, placed, place_of, with_phase, arrived, entered}
+use Rattle.receiver.specs.declared.receiver.Receiver as Code
 use Rattle.receiver.specs.declared.receiver.Received.{Received}
+
+-- the state between portions: what is wanted, what was met, where it is in the file, and the bytes that came of a header that is not whole yet, zero behind them
+pub record Receiver : Type 0 where
+  pub mode : Mode
+  pub want : ℕ
+  pub tally : Tally
+  pub place : Place
+  pub header : List ℕ
 
 -- the levels of a walk, and the bytes of the longest header
 abbrev pub levels : ℕ
@@ -27,6 +30,10 @@ longest_header = 28
 
 abbrev pub receiver : Mode → (want : ℕ) → Tally → Place → List ℕ → Receiver
 receiver mode want tally place header = record { mode = mode; want = want; tally = tally; place = place; header = header }
+
+-- what the code's struct has
+abbrev pub receiver_of : Code.Receiver → Receiver
+receiver_of r = receiver r.mode r.want (tally_of r.tally) (place_of r.place) r.header
 
 -- the same receiver at another place, with no byte of a header
 abbrev pub moved : Receiver → Tally → Place → Receiver
@@ -41,9 +48,13 @@ no_tally instance = record { count = 0; before = instance; met = false; first = 
 abbrev pub begun : Mode → (want instance : ℕ) → Place → Receiver
 begun mode want instance place = receiver mode want (no_tally instance) place (replicate {A = ℕ} longest_header 0)
 
--- beside a refusal: 206 was found, and all else is zero
+-- one in which a fault was found, and all else is zero
+abbrev pub refused_by : (number : ℕ) → Receiver
+refused_by n = let none = replicate {A = ℕ} levels 0 in begun Framework 0 0 (placed (Refused n) 0 0 0 none none)
+
+-- beside a refusal: 206 was found
 abbrev pub not_announced : Receiver
-not_announced = let none = replicate {A = ℕ} levels 0 in begun Framework 0 0 (placed (Refused 206) 0 0 0 none none)
+not_announced = refused_by 206
 
 -- the receiver of a file of `total` bytes
 unfoldable pub announced : Mode → (want instance total : ℕ) → Receiver
@@ -55,10 +66,14 @@ announced mode want instance total =
 unfoldable pub announce_of : Mode → (total : ℕ) → Answer
 announce_of mode total = cond (nat_lt (stream_limit mode) total) (Answers.refused 206) (success [])
 
--- what the code's `Announcement` answers
-abbrev pub announcement_answer : Announcement → Answer
-announcement_answer Announcement.Accepted = success []
-announcement_answer (Announcement.Refused n) = Answers.refused n
+-- what the code's announcement answers; and the receiver that goes on, of a refusal the one that has its number
+abbrev pub announcement_answer : Result Code.Receiver Refusal → Answer
+announcement_answer (Ok r) = success []
+announcement_answer (Err refusal) = Answers.refused (number refusal)
+
+abbrev pub announced_by : Result Code.Receiver Refusal → Receiver
+announced_by (Ok r) = receiver_of r
+announced_by (Err refusal) = refused_by (number refusal)
 
 -- ---- a portion
 
@@ -149,10 +164,10 @@ finish_at (Refused n) tally = Answers.refused n
 unfoldable pub finish_of : Receiver → Answer
 finish_of r = finish_at r.place.phase r.tally
 
--- what the code's `Received` answers
-abbrev pub received_answer : Received → Answer
-received_answer (Received.Part count first e) = success (count ∷ first ∷ e ∷ [])
-received_answer (Received.Refused n) = Answers.refused n
+-- what the code's finish answers
+abbrev pub received_answer : Result Received Refusal → Answer
+received_answer (Ok received) = success (received.count ∷ received.part.first ∷ received.part.end ∷ [])
+received_answer (Err refusal) = Answers.refused (number refusal)
 
 -- the fault that was found, or 0
 abbrev pub found_in : Phase → ℕ
@@ -163,6 +178,10 @@ found_in Complete = 0
 found_in Exceeded = 0
 found_in (Refused n) = n
 
--- what `fault` answers
+-- the fault of a receiver, and what the code's `fault` answers
 unfoldable pub fault_of : Receiver → ℕ
 fault_of r = found_in r.place.phase
+
+abbrev pub fault_answer : Option Refusal → ℕ
+fault_answer None = 0
+fault_answer (Some refusal) = number refusal

@@ -12,5 +12,5 @@ pub mod receiver;
 pub mod tally;
 
 pub use crate::receiver::{
-    Announced, Announcement, Received, Receiver, announce, fault, finish, portion,
+    Received, Receiver,
 };

@@ -1,51 +1,31 @@
 // The sections that a receiver met.
 ghost use Rattle.std.specs.Prelude.{◌≡◌};
-ghost use Rattle.receiver.specs.Tally.{counted as counted_of, visited as visited_of};
+ghost use Rattle.receiver.specs.Tally.{tally_of, visited};
 
-use std::num::wrapping_add_u64;
+use sections::search::Part;
 
 // How many sections were met; how many of the type wanted are still to be passed; and, once it is met,
 // the part of the one wanted.
-#[derive(Clone, Copy)]
+#[derive(Clone, Copy, Debug, PartialEq, Eq)]
 pub struct Tally {
     pub count: u64,
     pub before: u64,
-    pub met: bool,
-    pub first: usize,
-    pub end: usize,
+    pub part: Option<Part>,
 }
 
-// At a section of a type whose part is from `first` to `end`.
-pub(crate) fn visited(tally: Tally, want: u8, section_type: u8, first: usize, end: usize) -> Tally
-    ensures { result ≡ visited_of tally want section_type first end }
-{
-    let count = wrapping_add_u64(tally.count, 1);
-    if section_type != want {
-        return counted(tally, count, tally.before);
-    }
-    if tally.met {
-        return counted(tally, count, tally.before);
-    }
-    if tally.before != 0 {
-        return counted(tally, count, tally.before - 1);
-    }
-    Tally {
-        count,
-        before: 0,
-        met: true,
-        first,
-        end,
-    }
-}
-
-fn counted(tally: Tally, count: u64, before: u64) -> Tally
-    ensures { result ≡ counted_of tally count before }
-{
-    Tally {
-        count,
-        before,
-        met: tally.met,
-        first: tally.first,
-        end: tally.end,
+impl Tally {
+    // At a section of a type that shows `part`.
+    #[tactic(auto, unfolding(crate::specs::Tally::visited))]
+    pub(crate) fn visit(&mut self, want: u8, section_type: u8, part: Part)
+        ensures { tally_of self.new ≡ visited (tally_of self.old) want section_type part.first part.end }
+    {
+        self.count = self.count.wrapping_add(1);
+        if section_type == want && self.part.is_none() {
+            if self.before == 0 {
+                self.part = Some(part);
+            } else {
+                self.before -= 1;
+            }
+        }
     }
 }

@@ -2,10 +2,8 @@
 use Rattle.std.proofs.Common.{◌≡◌, ℕ, suc, ◌+◌, ◌-◌, ◌%◌, ◌^◌, ◌<◌, ◌≤◌, Bool, true, false, cond, leb, List, [], ◌∷◌, length, get_or, set, sym, refl, ap, ◌∙◌, subst, mod-eq_of_lt, arith, length-set, get_or-set_other, get_or-set_same, leb-false, leb-true}
 use Rattle.sections.specs.Walk.{aligned}
 use Rattle.sections.specs.declared.header.Mode.{Mode}
-use Rattle.receiver.specs.Place.{placed, arrived, padding, entered}
+use Rattle.receiver.specs.Place.{placed, arrived, padding, entered, Body, Place}
 use Rattle.receiver.specs.Tally.{wrapped}
-use Rattle.receiver.specs.declared.place.Phase.TheVariants.{Body}
-use Rattle.receiver.specs.declared.place.Place.{Place}
 use Rattle.receiver.proofs.place.Padded.{InFile}
 use Rattle.receiver.proofs.place.Standing.{Frame, pad_of, Held, Stands, rest, At, in_body, arrive}
 

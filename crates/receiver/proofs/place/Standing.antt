@@ -2,18 +2,15 @@
 use Rattle.std.proofs.Common.{◌≡◌, ℕ, suc, ◌+◌, ◌-◌, ◌%◌, ◌^◌, ◌<◌, ◌≤◌, Bool, true, false, cond, eqb, ltb, ◌⊎◌, List, [], ◌∷◌, length, get_or, sym, refl, ap, ◌∙◌, subst, ap₂, inl, inr, mod-eq_of_lt, arith, ltb-false, ltb-true, lt-ltb, eqb-true, le-leb}
 use mathlib.Core.Option.{some}
 use borrow.Author.Tests.{eqb-false}
-use Rattle.sections.specs.Header.{head_at}
+use Rattle.sections.specs.Header.{head_at, Fault}
 use Rattle.sections.specs.Partial.{bytes_for, needed}
 use Rattle.sections.specs.Walk.{Trace, done, fault, and_then, aligned, after_padding}
 use Rattle.sections.specs.declared.header.Mode.{Mode}
-use Rattle.sections.specs.declared.header.Head.TheVariants.{Fault}
 use Rattle.sections.proofs.partial.Views.{says_201, needed_three}
 use Rattle.sections.proofs.walk.Starts.{walk_from, walk_end, walk_fault}
-use Rattle.receiver.specs.Place.{placed, started, arrived, padding}
+use Rattle.receiver.specs.Place.{placed, started, arrived, padding, Header, Body, Padding, Complete, Refused, Place}
 use Rattle.receiver.specs.Received.{found_after, found_fault}
 use Rattle.receiver.specs.Tally.{wrapped}
-use Rattle.receiver.specs.declared.place.Phase.TheVariants.{Header, Body, Padding, Complete, Refused}
-use Rattle.receiver.specs.declared.place.Place.{Place}
 use Rattle.receiver.proofs.place.Padded.{InFile, padded, padded_zero, after_padded, padding_end, next_start}
 
 -- a section that was entered: the stream that holds it, where that starts in the file, and the section's end in it

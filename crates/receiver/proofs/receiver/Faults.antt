@@ -15,11 +15,9 @@ use Rattle.sections.proofs.header.Decided.{own_fields_lem}
 use Rattle.sections.proofs.header.Sizes.{header_range}
 use Rattle.sections.proofs.walk.FaultNumbers as Numbers
 use Rattle.receiver.specs.Received.{EndsIn, here, later, file_of, found_after, found_fault, found_of, fault_number, counted_answer, received_of, with_count}
-use Rattle.receiver.specs.Receiver.{no_tally, announced, fed, sound, portion_of, portions_of, finish_at, finish_of, found_in, fault_of}
-use Rattle.receiver.specs.declared.place.Phase.{Phase}
-use Rattle.receiver.specs.declared.place.Phase.TheVariants.{Header, Body, Padding, Complete, Exceeded, Refused}
-use Rattle.receiver.specs.declared.receiver.Receiver.{Receiver}
-use Rattle.receiver.specs.declared.tally.Tally.{Tally}
+use Rattle.receiver.specs.Receiver.{no_tally, announced, fed, sound, portion_of, portions_of, finish_at, finish_of, found_in, fault_of, Receiver}
+use Rattle.receiver.specs.Place.{Phase, Header, Body, Padding, Complete, Exceeded, Refused}
+use Rattle.receiver.specs.Tally.{Tally}
 use Rattle.receiver.proofs.receiver.Fed.{fed-refused}
 use Rattle.receiver.proofs.receiver.Finishing as F
 use Rattle.receiver.proofs.receiver.OneByte.{Reads}

@@ -1,11 +1,8 @@
 -- The bytes of a portion, one after the other: a byte more, the bytes of a body at once, and those that do not matter.
 use Rattle.std.proofs.Common.{◌≡◌, ℕ, zero, suc, ◌-◌, ◌<◌, ◌≤◌, List, [], ◌∷◌, length, get_or, drop, refl, ap, ◌∙◌, arith, drop_of_length-le, drop-cons, le-leb}
 use borrow.Author.Tests.{lt-leb}
-use Rattle.receiver.specs.Place.{with_phase, arrived}
-use Rattle.receiver.specs.Receiver.{at_place, passed, stepped, fed}
-use Rattle.receiver.specs.declared.place.Phase.{Phase}
-use Rattle.receiver.specs.declared.place.Phase.TheVariants.{Body, Complete, Exceeded, Refused}
-use Rattle.receiver.specs.declared.receiver.Receiver.{Receiver}
+use Rattle.receiver.specs.Place.{with_phase, onwards, Phase, Body, Complete, Exceeded, Refused}
+use Rattle.receiver.specs.Receiver.{at_place, passed, stepped, fed, Receiver}
 
 -- a byte more, by what comes next
 pub fed-step : (r : Receiver) (b : ℕ) (l : List ℕ) {ph : Phase} → r.place.phase ≡ ph → fed r (b ∷ l) ≡ fed (stepped ph r b) l
@@ -13,9 +10,10 @@ unfolding fed
 fed-step r b l e = ap (λ (p : Phase). fed (stepped p r b) l) e
 
 -- where no byte is left
-pub fed_end : (r : Receiver) (s : List ℕ) (i : ℕ) → length s ≤ i → r ≡ fed r (drop i s)
+pub fed_end : (r : Receiver) (s : List ℕ) → length s ≡ 0 → fed r s ≡ r
 unfolding fed
-fed_end r s i all = rw (drop_of_length-le s {i = i} all)
+fed_end r [] none = refl
+fed_end r (b ∷ l) none = absurd (omega arith)
 
 -- where what comes does not matter
 pub fed_exceeded : (r : Receiver) (l : List ℕ) → r.place.phase ≡ Exceeded → fed r l ≡ r
@@ -48,7 +46,7 @@ fed_body (suc k) n r (b ∷ l) e few there =
 
 module _ (r : Receiver) where
   abbrev pub there : Receiver
-  there = at_place r (arrived r.place.depth r.place.at r.place.left r.place.lefts r.place.pads)
+  there = at_place r (onwards r.place)
 
   fed_last : (n b : ℕ) (l : List ℕ) → r.place.phase ≡ Body n → n ≤ 1 → fed r (b ∷ l) ≡ fed there l
   unfolding stepped passed

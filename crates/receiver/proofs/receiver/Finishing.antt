@@ -3,12 +3,10 @@ use Rattle.std.proofs.Common.{◌≡◌, ℕ, zero, suc, ◌+◌, ◌-◌, ◌<�
 use mathlib.Core.Option.{none, some}
 use borrow.Author.Tests.{lt-leb}
 use Rattle.common.specs.Answers.{refused}
-use Rattle.sections.specs.Header.{head_in, head_at}
+use Rattle.sections.specs.Header.{head_in, head_at, Head, Fault, Closed, Open}
 use Rattle.sections.specs.Partial.{needed, bytes_for_head}
 use Rattle.sections.specs.Search.{sections, first_fault}
 use Rattle.sections.specs.Walk.{Trace, done, fault, section, and_then, aligned, after_padding, part}
-use Rattle.sections.specs.declared.header.Head.{Head}
-use Rattle.sections.specs.declared.header.Head.TheVariants.{Fault, Closed, Open}
 use Rattle.sections.specs.declared.header.Mode.{Mode}
 use Rattle.sections.proofs.header.Decided.{own_least}
 use Rattle.sections.proofs.header.Extent.{closed_within, open_within}
@@ -16,11 +14,9 @@ use Rattle.sections.proofs.header.Sizes.{header_range}
 use Rattle.sections.proofs.partial.Agree.{needed_left}
 use Rattle.sections.proofs.walk.Starts.{walk_from, walk-from_start, walk_fault, walk_closed, walk_205, walk_open}
 use Rattle.receiver.specs.Received.{found_after, found_fault}
-use Rattle.receiver.specs.Receiver.{no_tally, finish_at, found_in}
-use Rattle.receiver.specs.declared.place.Phase.{Phase}
-use Rattle.receiver.specs.declared.place.Phase.TheVariants.{Complete, Refused}
-use Rattle.receiver.specs.declared.receiver.Receiver.{Receiver}
-use Rattle.receiver.specs.declared.tally.Tally.{Tally}
+use Rattle.receiver.specs.Receiver.{no_tally, finish_at, found_in, Receiver}
+use Rattle.receiver.specs.Place.{Phase, Complete, Refused}
+use Rattle.receiver.specs.Tally.{Tally}
 use Rattle.receiver.proofs.receiver.Heads.{needed_by, as_head, due, due_205}
 use Rattle.receiver.proofs.receiver.Late.{Behind, behind_then, behind_less, behind_padding, behind_from, late}
 use Rattle.receiver.proofs.place.Padded.{InFile, padded}

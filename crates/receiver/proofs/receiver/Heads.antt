@@ -1,10 +1,8 @@
 -- The header at the place where a receiver stands: what its bytes in the window say, the stream and the file say too; and the bytes after which its
 -- faults are found.
 use Rattle.std.proofs.Common.{◌≡◌, ℕ, ◌+◌, ◌-◌, ◌≤◌, List, length, get_or, drop, sym, ap, ◌∙◌, zero-add, arith, get_or-drop, ne_eqb}
-use Rattle.sections.specs.Header.{type_at, head_in, head_at}
+use Rattle.sections.specs.Header.{type_at, head_in, head_at, Head, Fault, Closed, Open}
 use Rattle.sections.specs.Partial.{bytes_for, bytes_for_head, needed}
-use Rattle.sections.specs.declared.header.Head.{Head}
-use Rattle.sections.specs.declared.header.Head.TheVariants.{Fault, Closed, Open}
 use Rattle.sections.specs.declared.header.Mode.{Mode}
 use Rattle.sections.proofs.header.Cases.{fault_range}
 use Rattle.sections.proofs.header.Extent.{is_open}

@@ -1,10 +1,8 @@
 -- 204 and 205 are faults of holders: where the walk of a file ends in one of them, a compression or a GUID-defined section starts there.
 use Rattle.std.proofs.Common.{◌≡◌, ℕ, zero, suc, ◌+◌, ◌-◌, ◌<◌, ◌≤◌, Bool, true, false, cond, eqb, ltb, ◌⊎◌, List, length, get_or, sym, refl, ap, ◌∙◌, inl, inr, zero-add, arith, eqb-true}
-use Rattle.sections.specs.Header.{type_at, header_length, size_at, is_holder, head_at}
+use Rattle.sections.specs.Header.{type_at, header_length, size_at, is_holder, head_at, Head, Fault, Closed, Open}
 use Rattle.sections.specs.Types.{compression, type_info}
 use Rattle.sections.specs.Walk.{Trace, done, fault, section, and_then, aligned, zeros, first_nonzero, part, after_padding, meet, siblings, walk, stream_limit, stream_walk}
-use Rattle.sections.specs.declared.header.Head.{Head}
-use Rattle.sections.specs.declared.header.Head.TheVariants.{Fault, Closed, Open}
 use Rattle.sections.specs.declared.header.Mode.{Mode}
 use Rattle.sections.proofs.header.Cases.{Wrong, FirstFault, faults_exactly}
 use Rattle.sections.proofs.header.Extent.{is_open, open_within}

@@ -2,11 +2,9 @@
 use Rattle.std.proofs.Common.{◌≡◌, ℕ, zero, suc, ◌+◌, ◌-◌, ◌<◌, ◌≤◌, Bool, true, false, cond, eqb, ltb, List, length, refl, add-zero, arith, ne_eqb}
 use mathlib.Core.Option.{none}
 use borrow.Author.Tests.{lt-leb}
-use Rattle.sections.specs.Header.{head_at}
+use Rattle.sections.specs.Header.{head_at, Head, Fault, Closed, Open}
 use Rattle.sections.specs.Partial.{bytes_for}
 use Rattle.sections.specs.Walk.{Trace, done, fault, section, and_then, aligned, zeros, first_nonzero, part, after_padding, meet, siblings, walk}
-use Rattle.sections.specs.declared.header.Head.{Head}
-use Rattle.sections.specs.declared.header.Head.TheVariants.{Fault, Closed, Open}
 use Rattle.sections.specs.declared.header.Mode.{Mode}
 use Rattle.sections.proofs.header.Cases.{fault_range}
 use Rattle.sections.proofs.header.Extent.{closed_within, open_within}

@@ -2,14 +2,11 @@
 use Rattle.std.proofs.Common.{◌≡◌, ℕ, suc, ◌+◌, ◌-◌, ◌^◌, ◌<◌, ◌≤◌, Bool, true, false, cond, eqb, ltb, leb, ◌⊎◌, List, [], ◌∷◌, length, get_or, drop, set, replicate, sym, refl, ap, ◌∙◌, subst, inl, inr, mod-eq_of_lt, zero-add, arith, length-drop, length-set, length-take-le, get_or-set_other, get_or-set_same, ltb-false, ltb-true, lt-ltb, eqb-true, leb-false, leb-true}
 use borrow.Author.Tests.{eqb-false}
 use lib.ListN.{length-replicate}
-use Rattle.sections.specs.Header.{head_in, head_at}
-use Rattle.sections.specs.Partial.{bytes_for_head, needed, decided, partial_of}
+use Rattle.sections.specs.Header.{head_in, head_at, Head, Fault, Closed, Open}
+use Rattle.sections.specs.Partial.{bytes_for_head, needed, decided, partial_of, Partial}
 use Rattle.sections.specs.Search.{sections, first_fault}
 use Rattle.sections.specs.Walk.{Trace, done, fault, section, and_then, after_padding, part, walk}
-use Rattle.sections.specs.declared.header.Head.{Head}
-use Rattle.sections.specs.declared.header.Head.TheVariants.{Fault, Closed, Open}
 use Rattle.sections.specs.declared.header.Mode.{Mode}
-use Rattle.sections.specs.declared.partial.Partial.{Partial}
 use Rattle.sections.proofs.header.Decided.{own_least}
 use Rattle.sections.proofs.header.Extent.{closed_within, open_within}
 use Rattle.sections.proofs.header.Sizes.{header_range}
@@ -17,15 +14,10 @@ use Rattle.sections.proofs.partial.Agree.{moved as later, needed_left}
 use Rattle.sections.proofs.partial.Views.{part_is, needed_most}
 use Rattle.sections.proofs.walk.Parts.{part_in}
 use Rattle.sections.proofs.walk.Starts.{walk_from, walk-from_start, walk_fault, walk_closed, walk_205, walk_open}
-use Rattle.receiver.specs.Place.{with_phase, arrived, entered}
+use Rattle.receiver.specs.Place.{with_phase, arrived, entered, Phase, Header, Body, Padding, Refused, Place}
 use Rattle.receiver.specs.Received.{found_after, found_fault}
-use Rattle.receiver.specs.Receiver.{moved, at_place, waiting, refused, met, looked, passed, padding_step, stepped}
-use Rattle.receiver.specs.Tally.{wrapped, visited}
-use Rattle.receiver.specs.declared.place.Phase.{Phase}
-use Rattle.receiver.specs.declared.place.Phase.TheVariants.{Header, Body, Padding, Refused}
-use Rattle.receiver.specs.declared.place.Place.{Place}
-use Rattle.receiver.specs.declared.receiver.Receiver.{Receiver}
-use Rattle.receiver.specs.declared.tally.Tally.{Tally}
+use Rattle.receiver.specs.Receiver.{moved, at_place, waiting, refused, met, looked, passed, padding_step, stepped, Receiver}
+use Rattle.receiver.specs.Tally.{wrapped, visited, Tally}
 use Rattle.receiver.proofs.place.Entering.{enter}
 use Rattle.receiver.proofs.receiver.Heads.{needed_by, as_head, due, due_205, forward, backward}
 use Rattle.receiver.proofs.place.Padded.{InFile, padded, padded_zero, padded_more, padded_207}

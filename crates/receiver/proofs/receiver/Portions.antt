@@ -8,13 +8,10 @@ use Rattle.sections.specs.Search.{sections, first_fault}
 use Rattle.sections.specs.Walk.{Trace, done, fault, section, and_then, walk, stream_limit, stream_walk}
 use Rattle.sections.specs.declared.header.Mode.{Mode}
 use Rattle.sections.proofs.walk.Starts.{walk_from, walk-from_start}
-use Rattle.receiver.specs.Place.{started, arrived}
+use Rattle.receiver.specs.Place.{started, arrived, Phase, Complete, Exceeded, Refused}
 use Rattle.receiver.specs.Received.{joined, file_of, found_after, found_fault, found_of, fault_number, received_of}
-use Rattle.receiver.specs.Receiver.{no_tally, begun, not_announced, announced, stepped, fed, sound, portion_of, portions_of, tally_answer, finish_at, finish_of, found_in, fault_of}
-use Rattle.receiver.specs.declared.tally.Tally.{Tally}
-use Rattle.receiver.specs.declared.place.Phase.{Phase}
-use Rattle.receiver.specs.declared.place.Phase.TheVariants.{Complete, Exceeded, Refused}
-use Rattle.receiver.specs.declared.receiver.Receiver.{Receiver}
+use Rattle.receiver.specs.Receiver.{no_tally, begun, not_announced, announced, stepped, fed, sound, portion_of, portions_of, tally_answer, finish_at, finish_of, found_in, fault_of, Receiver}
+use Rattle.receiver.specs.Tally.{Tally}
 use Rattle.receiver.proofs.receiver.Fed.{fed-refused, fed_complete}
 use Rattle.receiver.proofs.receiver.Finishing as F
 use Rattle.receiver.proofs.receiver.OneByte.{Reads, byte_more}

@@ -4,18 +4,13 @@ use mathlib.Core.Option.{Option, none, some}
 use Rattle.common.specs.Refusals.{first_refusal, unless_refused}
 use Rattle.sections.specs.Header.{type_at, header_length, packed, is_holder, head_faults, section_of, head_in}
 use Rattle.sections.specs.Types.{type_info}
-use Rattle.sections.specs.Partial.{needed, decided, partial_of}
+use Rattle.sections.specs.Partial.{needed, decided, partial_of, Partial}
 use Rattle.sections.specs.declared.header.Mode.{Mode}
-use Rattle.sections.specs.declared.partial.Partial.{Partial}
 use Rattle.sections.proofs.types.Rows.{both}
 use Rattle.sections.proofs.partial.Views.{part_is, needed_most}
 use Rattle.receiver.specs.Tally.{wrapped}
-use Rattle.receiver.specs.Place.{placed, with_phase, started, arrived, padding, entered}
-use Rattle.receiver.specs.Receiver.{looked, met, refused, passed, padding_step, stepped, have_of, sound}
-use Rattle.receiver.specs.declared.place.Phase.{Phase}
-use Rattle.receiver.specs.declared.place.Phase.TheVariants.{Header, Body, Padding, Complete, Exceeded, Refused}
-use Rattle.receiver.specs.declared.place.Place.{Place}
-use Rattle.receiver.specs.declared.receiver.Receiver.{Receiver}
+use Rattle.receiver.specs.Place.{placed, with_phase, started, arrived, onwards, padding, entered, Phase, Header, Body, Padding, Complete, Exceeded, Refused, Place}
+use Rattle.receiver.specs.Receiver.{looked, met, refused, passed, padding_step, stepped, have_of, sound, Receiver}
 
 -- as two facts
 abbrev pub Fits : Place → Type 0
@@ -67,7 +62,7 @@ arrived_fits d at left lefts pads few = let f = arrived_fresh lefts pads d at le
 
 module _ (p : Place) where
   abbrev there : Place
-  there = arrived p.depth p.at p.left p.lefts p.pads
+  there = onwards p
 
   pub there_fits : p.depth ≤ 8 → Fits there
   there_fits = arrived_fits p.depth p.at p.left p.lefts p.pads

@@ -4,23 +4,16 @@ use mathlib.Core.Option.{Option, none, some}
 use borrow.Author.Tests.{eqb-false}
 use Rattle.common.specs.Refusals.{first_refusal, unless_refused}
 use Rattle.sections.specs.Types.{type_info}
-use Rattle.sections.specs.Header.{type_at, header_length, size_at, is_holder, own_fields, contents_at, packed, head_faults, section_of, head_in}
-use Rattle.sections.specs.Partial.{bytes_for_head, needed, decided, partial_of}
+use Rattle.sections.specs.Header.{type_at, header_length, size_at, is_holder, own_fields, contents_at, packed, head_faults, section_of, head_in, Head, Fault, Closed, Open}
+use Rattle.sections.specs.Partial.{bytes_for_head, needed, decided, partial_of, Partial, Waiting}
 use Rattle.sections.specs.declared.header.Mode.{Mode}
-use Rattle.sections.specs.declared.header.Head.{Head}
-use Rattle.sections.specs.declared.header.Head.TheVariants.{Fault, Closed, Open}
-use Rattle.sections.specs.declared.partial.Partial.{Partial}
-use Rattle.sections.specs.declared.partial.Partial.TheVariants.{Waiting}
 use Rattle.sections.proofs.header.Sizes.{header_range}
 use Rattle.sections.proofs.partial.Views.{needed_most, part_finds, part_is}
 use Rattle.sections.proofs.partial.Agree.{moved, agree}
 use Rattle.receiver.specs.Tally.{wrapped}
-use Rattle.receiver.specs.Place.{with_phase, entered}
-use Rattle.receiver.specs.Receiver.{receiver, waiting, refused, met, looked, stepped, fed}
+use Rattle.receiver.specs.Place.{with_phase, entered, Phase, Header}
+use Rattle.receiver.specs.Receiver.{receiver, waiting, refused, met, looked, stepped, fed, Receiver}
 use Rattle.receiver.specs.Steps.{header_bytes}
-use Rattle.receiver.specs.declared.place.Phase.{Phase}
-use Rattle.receiver.specs.declared.place.Phase.TheVariants.{Header}
-use Rattle.receiver.specs.declared.receiver.Receiver.{Receiver}
 use Rattle.receiver.proofs.receiver.Fed.{fed-step, fed-refused}
 
 -- what the longest header at the start of the bytes says

@@ -5,8 +5,7 @@ use Rattle.common.specs.Answers.{success}
 use Rattle.sections.specs.Search.{Section, of_type}
 use Rattle.receiver.specs.Received.{counted_answer}
 use Rattle.receiver.specs.Receiver.{no_tally, tally_answer}
-use Rattle.receiver.specs.Tally.{counted, visited}
-use Rattle.receiver.specs.declared.tally.Tally.{Tally}
+use Rattle.receiver.specs.Tally.{counted, visited, Tally}
 
 -- at a section, where the count does not wrap
 abbrev pub counts : Tally → (want t first e : ℕ) → Tally
