@@ -11,7 +11,6 @@ use crate::block_map::{EMPTY_HEADER, ENTRY_LENGTH, count_blocks, has_zero, map_f
 use crate::extended_header::ext_fault;
 use crate::state::State;
 use common::Refusal;
-use std::num::wrapping_add_u16;
 
 // "_FVH", as the little-endian number of its bytes.
 pub const SIGNATURE: u32 = 0x4856465F;
@@ -128,47 +127,40 @@ fn test_fields(s: &[u8], state: &State) -> Result<(), Refusal>
 }
 
 // Whether a header length breaks rule 104.
+#[tactic(auto, unfolding(crate::specs::Header::header_length_fault, common::specs::Refusals::any), using(std::proofs::lemmas::Bool::Decides::nat_tests))]
 fn header_length_fault(header: usize, lent: usize) -> bool
     ensures { result ≡ header_length_fault header lent }
 {
-    if header % ENTRY_LENGTH != 0 {
-        return true;
-    }
-    if header < SHORTEST_HEADER {
-        return true;
-    }
-    if LONGEST_HEADER < header {
-        return true;
-    }
-    lent < header
+    header % ENTRY_LENGTH != 0
+        || header < SHORTEST_HEADER
+        || LONGEST_HEADER < header
+        || lent < header
 }
 
-// The sum of the 16-bit words of a byte string, modulo 65,536, as the boot block's listing keeps it: a turn of the loop is a line of the
-// listing, and loads a word and adds it. An odd byte at the end is the low byte of a last word; a header has none.
+// The sum of the 16-bit words of a byte string, modulo 65,536, as the boot block's listing keeps it, in one 16-bit accumulator that wraps at
+// each addition: a turn of the loop is a line of the listing, and loads a word and adds it. An odd byte at the end is the low byte of a last
+// word; a header has none.
 pub fn word_sum(s: &[u8]) -> u16
     ensures { result ≡ word_sum s.now % word_modulus }
 {
     let mut sum: u16 = 0;
-    let mut i = 0;
-    while 1 < s.len() - i {
-        let low = s[i];
-        let high = s[i + 1];
+    for i in 0..s.len() / 2 {
+        let low = s[2 * i];
+        let high = s[2 * i + 1];
         sum = add_word(sum, numbers::u16_of(low, high));
-        i += 2;
     }
-    if i < s.len() {
-        let low = s[i];
+    if s.len() % 2 != 0 {
+        let low = s[s.len() - 1];
         return add_word(sum, numbers::u16_of(low, 0));
     }
     sum
 }
 
-// One line of the listing: a word added to the one 16-bit accumulator, which wraps. Where it held the true sum so far modulo 65,536, it then
-// holds the next one.
+// One line of the listing: a word added to the accumulator. Where it held the true sum so far modulo 65,536, it then holds the next one.
 fn add_word(sum: u16, word: u16) -> u16
     ensures { (so_far : ℕ) → sum ≡ so_far % word_modulus → result ≡ (so_far + word) % word_modulus }
 {
-    wrapping_add_u16(sum, word)
+    sum.wrapping_add(word)
 }
 
 // The file system GUID, bytes 16 to 31.
@@ -177,11 +169,7 @@ fn guid_at(s: &[u8]) -> [u8; 16]
     ensures { result ≡ take 16 (drop 16 s.now) }
 {
     let mut guid = [0u8; 16];
-    let mut i = 0;
-    while i < 16 {
-        guid[i] = s[FILE_SYSTEM_GUID + i];
-        i += 1;
-    }
+    guid.copy_from_slice(&s[FILE_SYSTEM_GUID..LENGTH]);
     guid
 }
 
@@ -190,10 +178,8 @@ fn read_map(s: &[u8], n: usize, map: &mut [u32])
     requires { (map_start + entry_length * n ≤ length s.now) × (2 * n ≤ length map.old) }
     ensures { map.new ≡ words_at (2 * n) s.now map_start ++ drop (2 * n) map.old }
 {
-    let mut i = 0;
-    while i < 2 * n {
+    for i in 0..2 * n {
         let at = BLOCK_MAP + 4 * i;
         map[i] = numbers::u32_of(s[at], s[at + 1], s[at + 2], s[at + 3]);
-        i += 1;
     }
 }
