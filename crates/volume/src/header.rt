@@ -51,6 +51,7 @@ pub fn open_volume(volume: &[u8], base: u64) -> Result<State, Refusal>
 }
 
 // The table's first five rows, 101 to 105, which need no state.
+#[tactic(auto, unfolding(crate::specs::Header::open_refusals, common::specs::Refusals::first_refusal), using(std::proofs::lemmas::Bool::Decides::nat_tests))]
 fn test_bytes(s: &[u8]) -> Result<(), Refusal>
     ensures { refusal_of result ≡ first_refusal (bytes_refusals s.now) }
 {
@@ -94,6 +95,7 @@ fn state_at(s: &[u8], base: u64) -> State
 }
 
 // The table's other rows, 106 to 110 and 112, of what the state would be.
+#[tactic(auto, unfolding(crate::specs::Header::open_refusals, crate::specs::Header::map_fault, crate::specs::State::map_of, common::specs::Refusals::first_refusal), using(std::proofs::lemmas::Bool::Decides::nat_tests, crate::proofs::block_map::Words::size_tested))]
 fn test_fields(s: &[u8], state: &State) -> Result<(), Refusal>
     requires { (2 * state.now.entries ≤ 64) × (entry_length ≤ header_length_at s.now) }
     ensures { refusal_of result ≡ first_refusal (fields_refusals s.now state.now) }
