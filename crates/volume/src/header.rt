@@ -61,10 +61,10 @@ fn test_bytes(s: &[u8]) -> Result<(), Refusal>
     if numbers::u32_at(s, SIGNATURE_PLACE) != SIGNATURE {
         return Err(Refusal::WrongSignature);
     }
-    if edition_fault(numbers::byte_at(s, REVISION) as u32) {
+    if edition_fault(u32::from(numbers::byte_at(s, REVISION))) {
         return Err(Refusal::UnknownRevision);
     }
-    let header = numbers::u16_at(s, HEADER_LENGTH) as usize;
+    let header = usize::from(numbers::u16_at(s, HEADER_LENGTH));
     if header_length_fault(header, s.len()) {
         return Err(Refusal::WrongHeaderLength);
     }
@@ -79,14 +79,14 @@ fn state_at(s: &[u8], base: u64) -> State
     requires { first_refusal (bytes_refusals s.now) ≡ none }
     ensures { result ≡ state_at s.now base }
 {
-    let entries = (numbers::u16_at(s, HEADER_LENGTH) as usize - EMPTY_HEADER) / ENTRY_LENGTH;
+    let entries = (usize::from(numbers::u16_at(s, HEADER_LENGTH)) - EMPTY_HEADER) / ENTRY_LENGTH;
     let mut map = [0u32; 64];
     read_map(s, entries, &mut map);
     State {
         guid: guid_at(s),
         length: numbers::u64_at(s, LENGTH),
         attributes: numbers::u32_at(s, ATTRIBUTES),
-        edition: numbers::byte_at(s, REVISION) as u32,
+        edition: u32::from(numbers::byte_at(s, REVISION)),
         base,
         protected: count_blocks(&map[..2 * entries]),
         entries,
@@ -101,7 +101,7 @@ fn test_fields(s: &[u8], state: &State) -> Result<(), Refusal>
     ensures { refusal_of result ≡ first_refusal (fields_refusals s.now state.now) }
 {
     let words = &state.map[..2 * state.entries];
-    let closing = numbers::u16_at(s, HEADER_LENGTH) as usize - ENTRY_LENGTH;
+    let closing = usize::from(numbers::u16_at(s, HEADER_LENGTH)) - ENTRY_LENGTH;
     if has_zero(words) || numbers::u64_at(s, closing) != 0 {
         return Err(Refusal::WrongBlockMap);
     }

@@ -1,5 +1,5 @@
 -- `volume::header::state_at` meets its contract: the bytes are readable, and the parts that are read make the header's state.
-use Rattle.std.proofs.Common.{sym, ap, arith, length-take-le, rules}
+use Rattle.std.proofs.Common.{sym, ap, ◌∙◌, arith, length-take-le, rules}
 use Rattle.volume.specs.Header.{entries_of}
 use Rattle.volume.specs.State.{state_with}
 use Rattle.volume.proofs.header.Fields.{state_parts, readable}
@@ -22,4 +22,4 @@ slice_bounds-count_blocks-end c = let r = readable c.args.s.now (search rules) i
 
 pub returns : goal.returns
 unfolding state_with
-returns c = rw (c.guid_at.ensures, c.count_blocks.ensures) (state_parts c.args.s.now c.args.base c.u64_at.ensures c.u32_at.ensures c.byte_at.ensures (ap entries_of c.u16_at.ensures) c.read_map.ensures)
+returns c = rw (c.guid_at.ensures, c.count_blocks.ensures) (state_parts c.args.s.now c.args.base c.u64_at.ensures c.u32_at.ensures c.byte_at.ensures (ap entries_of (c.from.ensures ∙ c.u16_at.ensures)) c.read_map.ensures)
