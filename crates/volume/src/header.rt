@@ -75,6 +75,7 @@ fn test_bytes(s: &[u8]) -> Result<(), Refusal>
 }
 
 // The state that a header of a good length gives.
+#[tactic(auto, using(crate::proofs::header::Fields::readable, std::proofs::lemmas::Grind::common_steps))]
 fn state_at(s: &[u8], base: u64) -> State
     requires { first_refusal (bytes_refusals s.now) ≡ none }
     ensures { result ≡ state_at s.now base }

@@ -1,7 +1,7 @@
 -- Laws of a block map's words: one entry at a time, for the loops over them, and what breaks rule 107.
 use Rattle.std.specs.Prelude.{fold, count_by}
-use Rattle.std.proofs.Common.{◌≡◌, ℕ, zero, suc, ◌+◌, ◌*◌, ◌^◌, ◌<◌, ◌≤◌, min, Bool, true, false, not, ◌&&◌, ◌||◌, eqb, ltb, List, [], ◌∷◌, length, get_or, take, drop, refl, suc-mul, mul-le-mul, pos_of_ne-zero, mul-zero, zero-mul, add-one, arith, drop_of_length-le, length-drop, drop-cons, ltb-false, le-ltb, lt-ltb, eq-eqb, ne_eqb, eqb-true, sym, ◌∙◌, take_all, ltb-true, ◌/◌, cond, add-zero}
-use mathlib.Core.Bool.{or-true, or-false, or_assoc, and-true, and_assoc}
+use Rattle.std.proofs.Common.{◌≡◌, ℕ, zero, suc, ◌+◌, ◌*◌, ◌^◌, ◌<◌, ◌≤◌, min, Bool, true, false, not, ◌&&◌, ◌||◌, eqb, ltb, List, [], ◌∷◌, length, get_or, take, drop, refl, suc-mul, mul-le-mul, pos_of_ne-zero, mul-zero, zero-mul, arith, drop_of_length-le, length-drop, ltb-false, le-ltb, lt-ltb, eq-eqb, ne_eqb, eqb-true, sym, ◌∙◌, take_all, ltb-true, ◌/◌, cond, add-zero}
+use mathlib.Core.Bool.{or-true, or-false, and-true, and_assoc}
 use borrow.Author.Tests.{eqb-false, not-false}
 use lib.Bits.{bit_or, or_zero_l, or_add_and, and_le_r}
 use Rattle.common.specs.Refusals.{any}

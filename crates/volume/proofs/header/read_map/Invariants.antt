@@ -1,5 +1,5 @@
 -- `volume::header::read_map` meets its contract: the words stored so far and those left make the map, and what stood beyond them stays.
-use Rattle.std.proofs.Common.{◌≡◌, ◌-◌, ◌*◌, ◌≤◌, ◌++◌, length, take, drop}
+use Rattle.std.proofs.Common.{◌≡◌, ◌*◌, ◌++◌, length, take, drop}
 use Rattle.volume.specs.Header.{map_start, words_at}
 use Rattle.volume.proofs.header.read_map.Given as goal
 

@@ -1,5 +1,5 @@
 -- `volume::header::word_sum` meets its contract: what the accumulator holds after the last whole word, and the odd byte that may be left.
-use Rattle.std.proofs.Common.{◌≡◌, ℕ, ◌+◌, ◌-◌, ◌*◌, ◌%◌, List, length, take, refl, sym, ap, ◌∙◌, arith, take_all, rules}
+use Rattle.std.proofs.Common.{◌≡◌, ℕ, ◌+◌, ◌-◌, ◌*◌, ◌%◌, List, length, take, refl, ap, ◌∙◌, arith, take_all}
 use Rattle.numbers.proofs.LittleEndian.{le_two, le_last}
 use Rattle.volume.specs.Header.{word_modulus, word_sum}
 use Rattle.volume.proofs.header.Sums.{sum_so_far, sum_whole}

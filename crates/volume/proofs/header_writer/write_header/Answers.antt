@@ -1,6 +1,5 @@
 -- `volume::header_writer::write_header` meets its contract: the stores make the header, then its checksum.
-use Rattle.std.proofs.Common.{◌≡◌, ℕ, ◌%◌, ◌≤◌, false, List, [], ◌∷◌, ◌++◌, length, take, drop, replicate, sym, refl, ap, ◌∙◌, arith, take_at, rules, le-ltb, lt-ltb, eq-eqb, ne_eqb}
-use mathlib.Core.Bool.{or-true}
+use Rattle.std.proofs.Common.{◌≡◌, ℕ, ◌%◌, ◌≤◌, false, List, [], ◌∷◌, ◌++◌, length, take, drop, replicate, sym, refl, ap, ◌∙◌, arith, take_at, rules, le-ltb, eq-eqb}
 use mathlib.Core.Option.{none}
 use lib.Seq.{sets}
 use Rattle.common.specs.Answers.{success}
@@ -12,7 +11,7 @@ use Rattle.volume.specs.ExtendedHeader.{ext_offset_start}
 use Rattle.volume.specs.Header.{map_start, word_modulus, word_sum}
 use Rattle.volume.specs.HeaderWriter.{checksum, header_bytes, header_back, header_front, header_with, pairs, words_bytes, words_fault, write_refusals, written_answer, wrote, offset_of, revision_of}
 use Rattle.volume.proofs.block_map.Words.{Sized, size_passed, size_tested}
-use Rattle.volume.proofs.header_writer.Stores.{write_refused, write_done, header_stored, checksum-stored, length_header}
+use Rattle.volume.proofs.header_writer.Stores.{write_done, header_stored, checksum-stored, length_header}
 use Rattle.volume.proofs.header_writer.write_header.Goals as goal
 use Rattle.volume.proofs.header_writer.write_header.Goals.{After-store_map, Else-attributes_fault, Else-map-ne0, Else-map_fault, Else-room-header, Start}
 
