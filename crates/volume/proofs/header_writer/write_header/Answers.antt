@@ -1,6 +1,5 @@
--- `volume::header_writer::write_edition` meets its contract: each refusal is the first row that holds; else the stores make the header, then its checksum.
-use Rattle.std.proofs.Common.{◌≡◌, ℕ, ◌%◌, ◌≤◌, false, List, [], ◌∷◌, ◌++◌, length, take, drop, replicate, sym, ap, ◌∙◌, arith, take_at, rules, le-ltb, lt-ltb, eq-eqb, ne_eqb}
-use mathlib.Core.Bool.{or-true}
+-- `volume::header_writer::write_header` meets its contract: the stores make the header, then its checksum.
+use Rattle.std.proofs.Common.{◌≡◌, ℕ, ◌%◌, ◌≤◌, false, List, [], ◌∷◌, ◌++◌, length, take, drop, replicate, sym, refl, ap, ◌∙◌, arith, take_at, rules, le-ltb, eq-eqb}
 use mathlib.Core.Option.{none}
 use lib.Seq.{sets}
 use Rattle.common.specs.Answers.{success}
@@ -10,11 +9,11 @@ use Rattle.volume.specs.Attributes.{attributes_fault}
 use Rattle.volume.specs.BlockMap.{header_length, size_fault}
 use Rattle.volume.specs.ExtendedHeader.{ext_offset_start}
 use Rattle.volume.specs.Header.{map_start, word_modulus, word_sum}
-use Rattle.volume.specs.HeaderWriter.{checksum, header_bytes, header_back, header_front, header_with, pairs, words_bytes, words_fault, write_refusals, written_answer, wrote}
-use Rattle.volume.proofs.block_map.Words.{Sized, size_passed}
-use Rattle.volume.proofs.header_writer.Stores.{write_refused, write_done, header_stored, checksum-stored, length_header}
-use Rattle.volume.proofs.header_writer.write_edition.Goals as goal
-use Rattle.volume.proofs.header_writer.write_edition.Goals.{After-store_map, Else-attributes_fault, Else-map-ne0, Else-map_fault, Else-room-header, Start}
+use Rattle.volume.specs.HeaderWriter.{checksum, header_bytes, header_back, header_front, header_with, pairs, words_bytes, words_fault, write_refusals, written_answer, wrote, offset_of, revision_of}
+use Rattle.volume.proofs.block_map.Words.{Sized, size_passed, size_tested}
+use Rattle.volume.proofs.header_writer.Stores.{write_done, header_stored, checksum-stored, length_header}
+use Rattle.volume.proofs.header_writer.write_header.Goals as goal
+use Rattle.volume.proofs.header_writer.write_header.Goals.{After-store_map, Else-attributes_fault, Else-map-ne0, Else-map_fault, Else-room-header, Start}
 
 -- the GUID is an array of 16 bytes
 guid_length : (c : Start) → length c.args.guid ≡ 16
@@ -29,10 +28,10 @@ unfolding words_fault
 words_ok c = rw (sym c.has_zero.ensures ∙ c.if-has_zero.false, eq-eqb _ _ c.if-map-ne0.false)
 
 sized : (c : Else-map_fault) → size_fault (pairs (words (goal.at.Else-map_fault c).Else-map-ne0)) (words (goal.at.Else-map_fault c).Else-map-ne0) c.args.len ≡ false
-sized c = rw (sym c.has_zero.ensures ∙ c.if-has_zero.false) at (sym c.map_fault.ensures ∙ c.if-map_fault.false)
+sized c = sym (size_tested c.args.map.now c.args.len (sym c.has_zero.ensures ∙ c.if-has_zero.false) refl c.map_fault.ensures) ∙ c.if-map_fault.false
 
-allowed : (c : Else-attributes_fault) → (let a = c.args in attributes_fault a.edition a.attributes) ≡ false
-allowed c = sym c.attributes_fault.ensures ∙ c.if-attributes_fault.false
+allowed : (c : Else-attributes_fault) → (let a = c.args in attributes_fault (revision_of a.edition) a.attributes) ≡ false
+allowed c = rw c.revision.ensures at (sym c.attributes_fault.ensures ∙ c.if-attributes_fault.false)
 
 -- an accepted request: the arguments, their sizes, and the header that they make
 module _ (c : Else-room-header) where
@@ -43,7 +42,7 @@ module _ (c : Else-room-header) where
   room = c.args.room.now
 
   abbrev header : ℕ → List ℕ
-  header sum = let a = c.args in header_with sum a.edition a.offset guid a.len a.attributes (words (goal.at.Else-room-header c).Else-map-ne0)
+  header sum = let a = c.args in header_with sum (revision_of a.edition) (offset_of a.edition) guid a.len a.attributes (words (goal.at.Else-room-header c).Else-map-ne0)
 
   abbrev long : ℕ
   long = c.header_length-header.result
@@ -57,7 +56,7 @@ module _ (c : Else-room-header) where
   within : header_length (pairs (words (goal.at.Else-room-header c).Else-map-ne0)) ≤ length room
   within = search rules
 
-  roomy : first_refusal (write_refusals c.args.edition c.args.len c.args.attributes (words (goal.at.Else-room-header c).Else-map-ne0) (length room)) ≡ none
+  roomy : first_refusal (write_refusals (revision_of c.args.edition) c.args.len c.args.attributes (words (goal.at.Else-room-header c).Else-map-ne0) (length room)) ≡ none
   unfolding first_refusal write_refusals
   roomy = simp (words_ok (goal.at.Else-room-header c).Else-map-ne0, sized (goal.at.Else-room-header c).Else-map_fault, allowed (goal.at.Else-room-header c).Else-attributes_fault, le-ltb _ _ within)
 
@@ -72,10 +71,10 @@ module _ (c : After-store_map) where
       c.store_map.ensures
       ∙ ap (λ (l : List ℕ). sets l map_start (words_bytes (words (goal.at.After-store_map c).Else-map-ne0) ++ replicate 8 0))
       (c.store_back.ensures
-      ∙ ap (λ (l : List ℕ). sets l ext_offset_start (header_back a.edition a.offset))
+      ∙ ap (λ (l : List ℕ). sets l ext_offset_start (header_back (revision_of a.edition) (offset_of a.edition)))
       (c.store_fields.ensures
       ∙ ap (λ (h : ℕ). sets (room (goal.at.After-store_map c).Else-room-header) 0 (header_front (guid (goal.at.After-store_map c).Else-room-header) a.len a.attributes h ++ le_bytes 2 0)) (long_is (goal.at.After-store_map c).Else-room-header)))
-      ∙ header_stored (room (goal.at.After-store_map c).Else-room-header) a.edition a.offset (guid (goal.at.After-store_map c).Else-room-header) a.len a.attributes (words (goal.at.After-store_map c).Else-map-ne0) (guid_length (goal.at.After-store_map c).Start)
+      ∙ header_stored (room (goal.at.After-store_map c).Else-room-header) (revision_of a.edition) (offset_of a.edition) (guid (goal.at.After-store_map c).Else-room-header) a.len a.attributes (words (goal.at.After-store_map c).Else-map-ne0) (guid_length (goal.at.After-store_map c).Start)
       c.if-map-ne0.false (within (goal.at.After-store_map c).Else-room-header)
       ∙ ap (λ (h : ℕ). header (goal.at.After-store_map c).Else-room-header 0 ++ drop h (room (goal.at.After-store_map c).Else-room-header)) (sym (long_is (goal.at.After-store_map c).Else-room-header))
 
@@ -87,38 +86,8 @@ module _ (c : After-store_map) where
   front_long : length (take (long (goal.at.After-store_map c).Else-room-header) c.store_map.new.room) ≡ long (goal.at.After-store_map c).Else-room-header
   front_long = ap length front_there ∙ header_long (goal.at.After-store_map c).Else-room-header 0 ∙ sym (long_is (goal.at.After-store_map c).Else-room-header)
 
-pub returns-then-has_zero : goal.returns-then-has_zero
-unfolding written_answer first_refusal write_refusals words_fault
-returns-then-has_zero c = write_refused _ _ _ _ _ _ _ 106 (simp (sym c.has_zero.ensures ∙ c.if-has_zero.true))
-
-pub returns-then-map-ne0 : goal.returns-then-map-ne0
-unfolding written_answer first_refusal write_refusals words_fault
-returns-then-map-ne0 c = write_refused _ _ _ _ _ _ _ 106 (simp (ne_eqb _ _ c.if-map-ne0.true, or-true))
-
-pub returns-then-map_fault : goal.returns-then-map_fault
-unfolding written_answer first_refusal write_refusals
-returns-then-map_fault c =
-    let nonzero = sym c.has_zero.ensures ∙ c.if-has_zero.false in
-    write_refused _ _ _ _ _ _ _ 107 (simp (words_ok (goal.at.returns-then-map_fault c).Else-map-ne0, rw nonzero at (sym c.map_fault.ensures ∙ c.if-map_fault.true)))
-
-pub returns-then-attributes_fault : goal.returns-then-attributes_fault
-unfolding written_answer first_refusal write_refusals
-returns-then-attributes_fault c =
-    write_refused _ _ _ _ _ _ _ 108 (simp (words_ok (goal.at.returns-then-attributes_fault c).Else-map-ne0, sized (goal.at.returns-then-attributes_fault c).Else-map_fault, sym c.attributes_fault.ensures ∙ c.if-attributes_fault.true))
-
 pub header_length-header-requires : goal.header_length-header-requires
 header_length-header-requires c = (size_passed _ _ _ (sized (goal.at.header_length-header-requires c).Else-map_fault)).few_entries
-
-pub returns-then-room-header : goal.returns-then-room-header
-unfolding written_answer first_refusal write_refusals
-returns-then-room-header c =
-    write_refused _ _ _ _ _ _ _ 5
-    (simp (
-      words_ok (goal.at.returns-then-room-header c).Else-map-ne0,
-      sized (goal.at.returns-then-room-header c).Else-map_fault,
-      allowed (goal.at.returns-then-room-header c).Else-attributes_fault,
-      lt-ltb _ _ (rw c.header_length-header.ensures at c.if-room-header.true),
-    ))
 
 pub store_map-requires : goal.store_map-requires
 store_map-requires c =
@@ -136,9 +105,9 @@ returns c =
     let check = checksum (word_sum (header (goal.at.returns c).Else-room-header 0)) in
     let sum : c.word_sum-sum.result ≡ word_sum (header (goal.at.returns c).Else-room-header 0) % word_modulus =
     c.word_sum-sum.ensures ∙ ap (λ (l : List ℕ). word_sum l % word_modulus) (front_there (goal.at.returns c).After-store_map) in
-    let sum-off : c.wrapping_sub_u16.result ≡ check = omega arith in
+    let sum-off : c.from.result ≡ check = omega arith in
     ap (λ (l : List ℕ). wrote (success (long (goal.at.returns c).Else-room-header ∷ [])) l)
     ((rw sum-off at c.store.ensures) ∙ ap (λ (l : List ℕ). sets l 50 (le_bytes 2 check)) (header_there (goal.at.returns c).After-store_map)
-    ∙ checksum-stored check a.edition a.offset (guid (goal.at.returns c).Else-room-header) a.len a.attributes (words (goal.at.returns c).Else-map-ne0) rest (guid_length (goal.at.returns c).Start))
+    ∙ checksum-stored check (revision_of a.edition) (offset_of a.edition) (guid (goal.at.returns c).Else-room-header) a.len a.attributes (words (goal.at.returns c).Else-map-ne0) rest (guid_length (goal.at.returns c).Start))
     ∙ ap (λ (h : ℕ). wrote (success (h ∷ [])) (header (goal.at.returns c).Else-room-header check ++ drop h (room (goal.at.returns c).Else-room-header))) (long_is (goal.at.returns c).Else-room-header)
-    ∙ write_done a.edition a.offset (guid (goal.at.returns c).Else-room-header) a.len a.attributes (words (goal.at.returns c).Else-map-ne0) (room (goal.at.returns c).Else-room-header) (guid_length (goal.at.returns c).Start) c.if-map-ne0.false (roomy (goal.at.returns c).Else-room-header)
+    ∙ write_done (revision_of a.edition) (offset_of a.edition) (guid (goal.at.returns c).Else-room-header) a.len a.attributes (words (goal.at.returns c).Else-map-ne0) (room (goal.at.returns c).Else-room-header) (guid_length (goal.at.returns c).Start) c.if-map-ne0.false (roomy (goal.at.returns c).Else-room-header)
