@@ -16,10 +16,13 @@ use Rattle.dependency.specs.Opcodes.{Kind, version, truth}
 use Rattle.common.specs.Answers.{refused, success}
 use Rattle.dependency.specs.Expression.{ended}
 use Rattle.dependency.specs.Validation.{stack_limit, kinds_after, same_kind, on_top, stack_refusals, fault_from, validity}
-use Rattle.dependency.specs.Stack.{ended_of, takes_of, leaves_of, digit_kind, kinds_of, Held, Moves, Follows}
-use Rattle.dependency.specs.declared.opcodes.Effect.{Effect}
-use Rattle.dependency.specs.declared.validation.Next.{Next}
-use Rattle.dependency.proofs.validation.Passing.{passing}
+use Rattle.std.specs.Prelude.{Ok}
+use denote.Enum.Declared.{tag_of}
+use Rattle.dependency.specs.contracts.validation.Kind.{the_type}
+use Rattle.dependency.specs.declared.validation.Kind.{Kind as CodeKind}
+use Rattle.dependency.specs.declared.validation.Kind.TheVariants as K
+use Rattle.dependency.specs.Stack.{ended_of, value_kind, digit_kind, kinds_of, Follows}
+use Rattle.dependency.proofs.validation.Passing.{passing, top_on}
 
 -- ---- the rows of the test at one opcode
 
@@ -71,41 +74,39 @@ same_digit zero (suc (suc a)) h l = absurd (omega arith)
 same_digit (suc zero) (suc (suc a)) h l = absurd (omega arith)
 same_digit (suc (suc k)) a h l = absurd (omega arith)
 
+-- the code's kinds as digits
+digit_small : (k : CodeKind) → tag_of the_type k < 2
+digit_small K.Version = lit< tt
+digit_small K.Truth = lit< tt
+
+digit_value : (k : CodeKind) → digit_kind (tag_of the_type k) ≡ value_kind k
+digit_value K.Version = refl
+digit_value K.Truth = refl
+
 -- ---- pushing one
 
-module _ (d b k : ℕ) (held : Held d b) (digit : k < 2) where
-  pub push_full : 32 ≤ d → first_refusal (stack_refusals [] (some (digit_kind k)) (kinds_of d b)) ≡ some 303
+module _ (d b : ℕ) where
+  pub push_full : (k : Kind) → 32 ≤ d → first_refusal (stack_refusals [] (some k) (kinds_of d b)) ≡ some 303
   unfolding kinds_after
-  push_full h = let e = kinds-length d b in full_stack [] _ _ (omega arith) (omega arith)
+  push_full k h = let e = kinds-length d b in full_stack [] _ _ (omega arith) (omega arith)
 
-  push_small : d < 32 → b * 2 + k < 2 ^ (d + 1)
-  push_small h = let s = held.small in rw (add-one d, pow-suc 2 d) (omega arith)
-
-  pub push_fits : d < 32 → b * 2 + k < 2 ^ 64
-  push_fits h =
-      let w : 2 ^ (d + 1) ≤ 2 ^ 63 = pow-le-pow_right (lit< tt) {i = d + 1} {j = 63} (omega arith) in
-      let s = push_small h in
-      omega arith
-
-  pub push_moves : d < 32 → Moves (d + 1) (b * 2 + k) [] (some (digit_kind k)) (kinds_of d b)
-  unfolding kinds_after on_top
-  push_moves h =
-      let e = kinds-length d b in
-      record {
-        passed = passing [] (some (digit_kind k)) (kinds_of d b) (record { enough = omega arith; within = omega arith; asked = refl });
-        left = kinds_push d b k digit;
-        held = record { within = omega arith; small = push_small h };
-      }
+  pub push_follows : (k : CodeKind) → d < 32 → Follows (Ok tt) [] (some (value_kind k)) (kinds_of d b) (kinds_of (d + 1) (b * 2 + tag_of the_type k))
+  unfolding Follows kinds_after on_top
+  push_follows k h =
+      let e = kinds-length d b in (
+        passing [] (some (value_kind k)) (kinds_of d b) (record { enough = omega arith; within = omega arith; asked = refl }),
+        rw (← digit_value k) (kinds_push d b (tag_of the_type k) (digit_small k)),
+      )
 
 -- ---- a truth for a truth
 
-module _ (d b : ℕ) (held : Held d b) where
+module _ (d b : ℕ) (w : d ≤ 32) where
   pub negate_short : d < 1 → first_refusal (stack_refusals (truth ∷ []) (some truth) (kinds_of d b)) ≡ some 303
   negate_short h = let e = kinds-length d b in short_stack _ _ _ (omega arith)
 
   negate_within : 1 ≤ d → length (kinds_after (truth ∷ []) (some truth) (kinds_of d b)) ≤ 32
   unfolding kinds_after
-  negate_within h = let e = kinds-length (d - 1) (b / 2) in let w = held.within in rw (kinds_top d b h) (omega arith)
+  negate_within h = let e = kinds-length (d - 1) (b / 2) in rw (kinds_top d b h) (omega arith)
 
   pub negate_wrong : 1 ≤ d → (b % 2 ≡ 1 → ⊥) → first_refusal (stack_refusals (truth ∷ []) (some truth) (kinds_of d b)) ≡ some 304
   unfolding on_top
@@ -114,15 +115,13 @@ module _ (d b : ℕ) (held : Held d b) where
       let low : b % 2 ≡ 0 = omega arith in
       wrong_kind _ _ _ (omega arith) (negate_within h) (rw (kinds_top d b h, low))
 
-  pub negate_moves : 1 ≤ d → b % 2 ≡ 1 → Moves d b (truth ∷ []) (some truth) (kinds_of d b)
-  unfolding on_top kinds_after
-  negate_moves h low =
-      let e = kinds-length d b in
-      record {
-        passed = passing (truth ∷ []) (some truth) (kinds_of d b) (record { enough = omega arith; within = negate_within h; asked = rw (kinds_top d b h, low) });
-        left = rw (kinds_top d b h, low);
-        held = held;
-      }
+  pub negate_follows : 1 ≤ d → b % 2 ≡ 1 → Follows (Ok tt) (truth ∷ []) (some truth) (kinds_of d b) (kinds_of d b)
+  unfolding Follows on_top kinds_after
+  negate_follows h low =
+      let e = kinds-length d b in (
+        passing (truth ∷ []) (some truth) (kinds_of d b) (record { enough = omega arith; within = negate_within h; asked = rw (kinds_top d b h, low) }),
+        rw (kinds_top d b h, low),
+      )
 
 -- ---- two of a kind, and a truth left
 
@@ -139,40 +138,49 @@ low_two b zero h e = (omega arith, omega arith)
 low_two b (suc zero) h e = (omega arith, omega arith)
 low_two b (suc (suc k)) h e = absurd (omega arith)
 
-module _ (d b k : ℕ) (held : Held d b) (digit : k < 2) where
-  pub two_short : d < 2 → first_refusal (stack_refusals (digit_kind k ∷ digit_kind k ∷ []) (some truth) (kinds_of d b)) ≡ some 303
-  two_short h = let e = kinds-length d b in short_stack _ _ _ (omega arith)
+-- the digits left are those of a stack less deep
+pub two_small : (d b : ℕ) → b < 2 ^ d → 2 ≤ d → b / 4 * 2 + 1 < 2 ^ (d - 1)
+two_small d b s h =
+    let less : d - 1 ≡ d - 2 + 1 = omega arith in
+    let deep : d ≡ suc (suc (d - 2)) = omega arith in
+    let t : b < 2 ^ (d - 2) * 2 * 2 = rw (deep, pow-suc 2 (suc (d - 2)), pow-suc 2 (d - 2)) at s in
+    rw (less, add-one (d - 2), pow-suc 2 (d - 2)) (omega arith)
 
-  two_within : 2 ≤ d → length (kinds_after (digit_kind k ∷ digit_kind k ∷ []) (some truth) (kinds_of d b)) ≤ 32
+module _ (d b : ℕ) (w : d ≤ 32) where
+  pub two_short : (k : Kind) → d < 2 → first_refusal (stack_refusals (k ∷ k ∷ []) (some truth) (kinds_of d b)) ≡ some 303
+  two_short k h = let e = kinds-length d b in short_stack _ _ _ (omega arith)
+
+  two_within : (k : Kind) → 2 ≤ d → length (kinds_after (k ∷ k ∷ []) (some truth) (kinds_of d b)) ≤ 32
   unfolding kinds_after
-  two_within h = let e = kinds-length (d - 2) (b / 4) in let w = held.within in rw (kinds_two d b h) (omega arith)
+  two_within k h = let e = kinds-length (d - 2) (b / 4) in rw (kinds_two d b h) (omega arith)
 
-  pub two_wrong : 2 ≤ d → (b % 4 ≡ 3 * k → ⊥) → first_refusal (stack_refusals (digit_kind k ∷ digit_kind k ∷ []) (some truth) (kinds_of d b)) ≡ some 304
+  wrong_two : (k : ℕ) → k < 2 → 2 ≤ d → (b % 4 ≡ 3 * k → ⊥) → on_top (digit_kind k ∷ digit_kind k ∷ []) (kinds_of d b) ≡ false
   unfolding on_top
-  two_wrong h n =
-      let e = kinds-length d b in
-      wrong_kind _ _ _ (omega arith) (two_within h)
-      (rw (kinds_two d b h, same_digit k (b % 2) digit (omega arith), same_digit k (b / 2 % 2) digit (omega arith))
-      (not_both k (b % 2) (b / 2 % 2) (λ p q. n (omega arith))))
+  wrong_two k digit h n =
+      rw (kinds_two d b h, same_digit k (b % 2) digit (omega arith), same_digit k (b / 2 % 2) digit (omega arith))
+      (not_both k (b % 2) (b / 2 % 2) (λ p q. n (omega arith)))
 
-  pub two_moves : 2 ≤ d → b % 4 ≡ 3 * k → Moves (d - 1) (b / 4 * 2 + 1) (digit_kind k ∷ digit_kind k ∷ []) (some truth) (kinds_of d b)
-  unfolding on_top kinds_after
-  two_moves h four =
+  pub two_wrong : (k : CodeKind) → 2 ≤ d → (b % 4 ≡ 3 * tag_of the_type k → ⊥)
+      → first_refusal (stack_refusals (value_kind k ∷ value_kind k ∷ []) (some truth) (kinds_of d b)) ≡ some 304
+  two_wrong k h n =
       let e = kinds-length d b in
-      let low : b % 2 ≡ k = (low_two b k digit four).0 in
-      let high : b / 2 % 2 ≡ k = (low_two b k digit four).1 in
-      let one : same_kind (digit_kind k) (digit_kind k) ≡ true = same_digit k k digit digit ∙ eq-eqb k k refl in
+      wrong_kind _ _ _ (omega arith) (two_within (value_kind k) h)
+      (rw (← digit_value k) (wrong_two (tag_of the_type k) (digit_small k) h n))
+
+  two_digits : (k : ℕ) → k < 2 → 2 ≤ d → b % 4 ≡ 3 * k → kinds_of d b ≡ digit_kind k ∷ digit_kind k ∷ kinds_of (d - 2) (b / 4)
+  two_digits k digit h four = kinds_two d b h ∙ ap₂ (λ (x y : ℕ). digit_kind x ∷ digit_kind y ∷ kinds_of (d - 2) (b / 4)) (low_two b k digit four).0 (low_two b k digit four).1
+
+  pub two_follows : (k : CodeKind) → 2 ≤ d → b % 4 ≡ 3 * tag_of the_type k
+      → Follows (Ok tt) (value_kind k ∷ value_kind k ∷ []) (some truth) (kinds_of d b) (kinds_of (d - 1) (b / 4 * 2 + 1))
+  unfolding Follows on_top kinds_after
+  two_follows k h four =
+      let e = kinds-length d b in
       let less : d - 1 ≡ d - 2 + 1 = omega arith in
-      let deep : d ≡ suc (suc (d - 2)) = omega arith in
-      let s : b < 2 ^ suc (suc (d - 2)) = rw (← deep) held.small in
-      let t : b < 2 ^ (d - 2) * 2 * 2 = rw (pow-suc 2 (suc (d - 2)), pow-suc 2 (d - 2)) at s in
-      let w = held.within in
-      record {
-        passed = passing (digit_kind k ∷ digit_kind k ∷ []) (some truth) (kinds_of d b)
-            (record { enough = omega arith; within = two_within h; asked = rw (kinds_two d b h, low, high, one) });
-        left = rw (less, kinds_push (d - 2) (b / 4) 1 (omega arith), kinds_two d b h);
-        held = record { within = omega arith; small = rw (less, add-one (d - 2), pow-suc 2 (d - 2)) (omega arith) };
-      }
+      let tops : kinds_of d b ≡ value_kind k ∷ value_kind k ∷ kinds_of (d - 2) (b / 4) = rw (← digit_value k) (two_digits (tag_of the_type k) (digit_small k) h four) in (
+        passing (value_kind k ∷ value_kind k ∷ []) (some truth) (kinds_of d b)
+        (record { enough = omega arith; within = two_within (value_kind k) h; asked = ap (on_top (value_kind k ∷ value_kind k ∷ [])) tops ∙ top_on (value_kind k ∷ value_kind k ∷ []) (kinds_of (d - 2) (b / 4)) }),
+        rw (less, kinds_push (d - 2) (b / 4) 1 (omega arith), tops),
+      )
 
 -- ---- the end
 
@@ -186,23 +194,18 @@ end_depth (suc (suc d)) b n = go (digit_kind (b % 2))
     go version = refl
     go truth = refl
 
-pub end_kind : (d b : ℕ) → d ≡ 1 → (b % 2 ≡ 1 → ⊥) → refused 305 ≡ ended_of (kinds_of d b)
+pub end_kind : (d b : ℕ) → d ≡ 1 → b < 2 ^ d → (b ≡ 1 → ⊥) → refused 305 ≡ ended_of (kinds_of d b)
 unfolding ended_of fault_from kinds_of
-end_kind d b e n = let low : b % 2 ≡ 0 = omega arith in rw (e, low)
+end_kind d b e s n = let t : b < 2 = rw e at s in let low : b ≡ 0 = omega arith in rw (e, low)
 
-pub end_passed : (d b : ℕ) → d ≡ 1 → b % 2 ≡ 1 → success [] ≡ ended_of (kinds_of d b)
+pub end_passed : (d b : ℕ) → d ≡ 1 → b ≡ 1 → success [] ≡ ended_of (kinds_of d b)
 unfolding ended_of fault_from kinds_of
 end_passed d b e low = rw (e, low)
 
 -- ---- an opcode that takes and leaves nothing
 
-pub leave_moves : (d b : ℕ) → Held d b → Moves d b [] none (kinds_of d b)
-unfolding kinds_after on_top
-leave_moves d b held =
+pub leave_follows : (d b : ℕ) → d ≤ 32 → Follows (Ok tt) [] none (kinds_of d b) (kinds_of d b)
+unfolding Follows kinds_after on_top
+leave_follows d b w =
     let e = kinds-length d b in
-    let w = held.within in
-    record { passed = passing [] none (kinds_of d b) (record { enough = omega arith; within = omega arith; asked = refl }); left = refl; held = held }
-
--- what an effect makes of the kinds, at the effect that an opcode has
-pub follows_at : (x : Effect) (r : Next) (f : Effect) (ks : List Kind) → f ≡ x → Follows r (takes_of x) (leaves_of x) ks → Follows r (takes_of f) (leaves_of f) ks
-follows_at x r f ks e moved = rw e moved
+    (passing [] none (kinds_of d b) (record { enough = omega arith; within = omega arith; asked = refl }), refl)
