@@ -120,3 +120,20 @@ code_known o = elim (last_code o) as (λ x. code_of o ≤ end_code) [ inl e ↦ 
 
 pub code_early : (o : Opcode) → (o ≡ O.End → ⊥) → code_of o < end_code
 code_early o n = elim (last_code o) as (λ x. code_of o < end_code) [ inl e ↦ absurd (n e) | inr h ↦ h ]
+
+-- after the first two
+pub code_late : (o : Opcode) → (o ≡ O.PushGuid → ⊥) → (o ≡ O.PushVersion → ⊥) → 2 ≤ code_of o
+code_late O.PushGuid a b = absurd (a refl)
+code_late O.PushVersion a b = absurd (b refl)
+code_late O.VersionStr a b = lit≤ tt
+code_late O.And a b = lit≤ tt
+code_late O.Or a b = lit≤ tt
+code_late O.Not a b = lit≤ tt
+code_late O.True a b = lit≤ tt
+code_late O.False a b = lit≤ tt
+code_late O.Eq a b = lit≤ tt
+code_late O.Gt a b = lit≤ tt
+code_late O.Gte a b = lit≤ tt
+code_late O.Lt a b = lit≤ tt
+code_late O.Lte a b = lit≤ tt
+code_late O.End a b = lit≤ tt
