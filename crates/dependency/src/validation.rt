@@ -45,69 +45,43 @@ pub fn validate(expression: &[u8]) -> Result<(), Refusal>
 }
 
 impl Kinds {
-    ghost use Rattle.std.specs.Prelude.{[], ◌∷◌};
     ghost use Rattle.std.proofs.Math.Option.{some};
-    ghost use Rattle.dependency.specs.Opcodes.{code_of, row_of, truth};
+    ghost use Rattle.dependency.specs.Opcodes.{code_of, row_of};
     ghost use Rattle.dependency.specs.Validation.{validated_answer};
     ghost use Rattle.dependency.specs.Stack.{Follows, ended_of, kinds_of, value_kind};
 
     // The kinds after an opcode. Refused with 303, 304.
-    #[tactic(auto, using(crate::proofs::validation::Digits::leave_follows), unfolding(crate::specs::Opcodes::row_of, crate::specs::Opcodes::row_among, crate::specs::Opcodes::opcodes))]
+    #[tactic(auto, using(crate::proofs::validation::Digits::leave_follows), unfolding(crate::specs::Opcodes::row_of, crate::specs::Opcodes::row_among, crate::specs::Opcodes::opcodes, crate::specs::Stack::kinds_of))]
     fn follow(&mut self, opcode: Opcode) -> Result<(), Refusal>
         ensures { Follows result (row_of (code_of opcode)).takes (row_of (code_of opcode)).leaves (kinds_of self.old.depth self.old.digits) (kinds_of self.new.depth self.new.digits) }
     {
         match opcode {
-            Opcode::PushGuid | Opcode::PushVersion => self.push(Kind::Version),
-            Opcode::True | Opcode::False => self.push(Kind::Truth),
-            Opcode::Not => self.negate(),
-            Opcode::And | Opcode::Or => self.take_two(Kind::Truth),
+            Opcode::PushGuid | Opcode::PushVersion => self.replace(0, 0, Kind::Version),
+            Opcode::True | Opcode::False => self.replace(0, 0, Kind::Truth),
+            Opcode::Not => self.replace(1, 0b1, Kind::Truth),
+            Opcode::And | Opcode::Or => self.replace(2, 0b11, Kind::Truth),
             Opcode::Eq | Opcode::Gt | Opcode::Gte | Opcode::Lt | Opcode::Lte => {
-                self.take_two(Kind::Version)
+                self.replace(2, 0b00, Kind::Truth)
             }
             Opcode::VersionStr | Opcode::End => Ok(()),
         }
     }
 
-    // One of a kind is pushed.
-    fn push(&mut self, kind: Kind) -> Result<(), Refusal>
-        ensures { Follows result [] (some (value_kind kind)) (kinds_of self.old.depth self.old.digits) (kinds_of self.new.depth self.new.digits) }
+    // So many kinds are taken, which must be those asked for, by their digits, and one kind is left.
+    fn replace(&mut self, taken: usize, asked: u64, left: Kind) -> Result<(), Refusal>
+        requires few { taken ≤ 2 }
+        requires digits { asked < 2 ^ taken }
+        ensures { Follows result (kinds_of taken asked) (some (value_kind left)) (kinds_of self.old.depth self.old.digits) (kinds_of self.new.depth self.new.digits) }
     {
-        if self.depth >= STACK_LIMIT {
+        if self.depth < taken || self.depth - taken >= STACK_LIMIT {
             return Err(Refusal::StackExceeded);
         }
-        *self = Kinds {
-            digits: self.digits * 2 + kind as u64,
-            depth: self.depth + 1,
-        };
-        Ok(())
-    }
-
-    // A truth is taken, and a truth is left.
-    fn negate(&self) -> Result<(), Refusal>
-        ensures { Follows result (truth ∷ []) (some truth) (kinds_of self.now.depth self.now.digits) (kinds_of self.now.depth self.now.digits) }
-    {
-        if self.depth < 1 {
-            return Err(Refusal::StackExceeded);
-        }
-        if self.digits % 2 != Kind::Truth as u64 {
-            return Err(Refusal::WrongKind);
-        }
-        Ok(())
-    }
-
-    // Two of a kind are taken, and a truth is left. The two lowest digits are 00 for versions and 11 for truths.
-    fn take_two(&mut self, kind: Kind) -> Result<(), Refusal>
-        ensures { Follows result (value_kind kind ∷ value_kind kind ∷ []) (some truth) (kinds_of self.old.depth self.old.digits) (kinds_of self.new.depth self.new.digits) }
-    {
-        if self.depth < 2 {
-            return Err(Refusal::StackExceeded);
-        }
-        if self.digits % 4 != 3 * kind as u64 {
+        if self.digits % (1 << taken) != asked {
             return Err(Refusal::WrongKind);
         }
         *self = Kinds {
-            digits: self.digits / 4 * 2 + Kind::Truth as u64,
-            depth: self.depth - 1,
+            digits: self.digits / (1 << taken) * 2 + left as u64,
+            depth: self.depth - taken + 1,
         };
         Ok(())
     }
