@@ -26,6 +26,7 @@ struct Values {
 // Whether an expression holds of the installed firmware: the first `used` rows of the table, with the versions beside them; of a GUID
 // that stands there twice the first row counts. Refused with 2 (a used number over sixteen), 301 to 305 as by `validate`, 14 (a
 // GUID of the expression is in no used row). One pass for the test and one for the values.
+#[tactic(auto, using(crate::proofs::evaluation::Runs::evaluate_used, crate::proofs::evaluation::Runs::evaluate_err, crate::proofs::evaluation::Runs::evaluate_run, crate::proofs::evaluation::Runs::valid_none), unfolding(crate::specs::Installed::installed_in))]
 pub fn evaluate(
     expression: &[u8],
     rows: [[u8; 16]; 16],

@@ -1,7 +1,7 @@
 -- One turn of the evaluation: the bytes that are left pass the test at the kinds of the stack, and say what the whole says.
 use Prim.Native.Nat.{ℕ, ◌+◌, ◌-◌, ◌≤◌, ◌<◌}
 use mathlib.Core.Path.{◌≡◌, refl, sym, ap, ap₂, ◌∙◌}
-use mathlib.Core.Bool.{true, false, not}
+use mathlib.Core.Bool.{Bool, true, false, not}
 use mathlib.Core.List.{List, [], ◌∷◌}
 use mathlib.Core.Option.{Option, none, some, some-ne-none}
 use native.Mathlib.Omega.{arith}
@@ -19,7 +19,7 @@ use Rattle.dependency.specs.Opcodes.{Kind, truth, Installed, OpcodeRow, known, e
 use Rattle.dependency.specs.Expression.{Reading, ended, next, reading}
 use Rattle.dependency.specs.Installed.{installed_in}
 use Rattle.dependency.specs.Validation.{stack_limit, result_kinds, kinds_after, stack_refusals, is_one_truth, fault_from, validity, validated_answer, validate_of}
-use Rattle.dependency.specs.Evaluation.{Cell, value_on, step, run, is_missing, lacks, truth_number, outcome, evaluate_of}
+use Rattle.dependency.specs.Evaluation.{Cell, value_on, step, run, is_missing, lacks, truth_number, outcome, evaluate_of, evaluated_answer}
 use Rattle.dependency.specs.Stack.{found_version, number_cell, cells_of, Given, Gives, Fits, Stepped}
 use Rattle.dependency.specs.declared.opcodes.Opcode.{Opcode}
 use Rattle.dependency.specs.declared.opcodes.Opcode.TheVariants as O
@@ -186,3 +186,6 @@ module _ (rows : List (List ℕ)) (versions : List ℕ) (used : ℕ) (s : List �
     pub evaluate_run : (a : Answer) → success [] ≡ validate_of s → a ≡ outcome (installed_in rows versions used) (reading s) [] → a ≡ evaluate_of rows versions used s
     unfolding evaluate_of first_refusal
     evaluate_run a e q = q ∙ rw (le-ltb 16 used h, valid_none s (sym e))
+
+    pub evaluate_err : (r : std.Result Bool Refusal) (e : Refusal) → r ≡ Err e → refused (number e) ≡ validate_of s → evaluated_answer r ≡ evaluate_of rows versions used s
+    evaluate_err r e is h = ap evaluated_answer is ∙ evaluate_refused (number e) h
