@@ -1,6 +1,7 @@
 -- The evaluation of a dependency expression against the installed firmware (document 02, k; edk2's EvaluateDependency): it follows the values on the stack. Refusals: "2 first, for a used number
 -- over sixteen", the test's, "then, at evaluation, 14 for a GUID in no used row".
-use Rattle.std.specs.Prelude.{ℕ, ◌≤◌, ◌≡◌, Bool, true, false, cond, ◌||◌, List, [], ◌∷◌, ◌++◌, map, ltb, length, take, drop}
+use Rattle.std.specs.Prelude as std
+use Rattle.std.specs.Prelude.{ℕ, Ok, Err, ◌≤◌, ◌≡◌, Bool, true, false, cond, ◌||◌, List, [], ◌∷◌, ◌++◌, map, ltb, length, take, drop}
 use Rattle.std.proofs.Math.Option.{Option, none, some}
 use Rattle.common.specs.Answers.{Answer, refused, success}
 use Rattle.common.specs.Refusals.{row, first_refusal, unless_refused}
@@ -8,8 +9,8 @@ use Rattle.dependency.specs.Opcodes.{Kind, version, truth, Value, Operand, bare,
 use Rattle.dependency.specs.Expression.{Reading, fault, ended, next, reading}
 use Rattle.dependency.specs.Installed.{row_limit, installed_in}
 use Rattle.dependency.specs.Validation.{stack_limit, fault_from}
-use Rattle.dependency.specs.declared.evaluation.Evaluated.{Evaluated}
-use Rattle.dependency.specs.declared.evaluation.Evaluated.TheVariants as E
+use Rattle.common.specs.Refusal.{number}
+use Rattle.common.specs.declared.refusal.Refusal.{Refusal}
 
 -- ---- the stack as values, its top first
 
@@ -88,10 +89,10 @@ evaluate_of rows versions used s =
     (unless_refused refused (fault_from (reading s) [])
     (outcome (installed_in rows versions used) (reading s) []))
 
--- the answer that each case of the code's enum stands for
-abbrev pub evaluated_answer : Evaluated → Answer
-evaluated_answer (E.Truth b) = success (truth_number b ∷ [])
-evaluated_answer (E.Refused n) = refused n
+-- the answer that the code's result stands for
+abbrev pub evaluated_answer : std.Result Bool Refusal → Answer
+evaluated_answer (Ok b) = success (truth_number b ∷ [])
+evaluated_answer (Err e) = refused (number e)
 
 -- ---- for the theorems: every GUID of an expression, up to its end
 

@@ -2,15 +2,18 @@
 -- meanings from UEFI 2.10"): one list, off which reader, writer, test and evaluation are read; and a single opcode in bytes.
 --
 -- Refusals of a single opcode: 301 unknown opcode, 302 cut operand or text without its zero, 305 no bytes to read, 5 the writer's room.
-use Rattle.std.specs.Prelude.{ℕ, ◌+◌, ◌≡◌, Bool, true, false, cond, not, ◌&&◌, ◌||◌, List, [], ◌∷◌, ◌++◌, ◌⊎◌, eqb, ltb, leb, length, get_or, take, drop}
+use Rattle.std.specs.Prelude as std
+use Rattle.std.specs.Prelude.{ℕ, ◌+◌, ◌<◌, ◌≡◌, MatchResult, Ok, Err, Bool, true, false, cond, not, ◌&&◌, ◌||◌, List, [], ◌∷◌, ◌++◌, ◌⊎◌, eqb, ltb, leb, length, get_or, take, drop}
 use Rattle.std.proofs.Math.Option.{Option, none, some}
 use Rattle.common.specs.Answers.{Answer, refused, success}
 use Rattle.common.specs.Refusals.{Row, row, first_refusal, unless_refused}
 use Rattle.numbers.specs.LittleEndian.{le}
+use Rattle.common.specs.Refusal.{number}
+use Rattle.common.specs.declared.refusal.Refusal.{Refusal}
+use Rattle.common.specs.declared.refusal.Refusal.TheVariants.{UnknownOpcode}
 use Rattle.dependency.specs.declared.opcodes.Read.{Read}
-use Rattle.dependency.specs.declared.opcodes.Read.TheVariants as R
-use Rattle.dependency.specs.declared.opcodes.Written.{Written}
-use Rattle.dependency.specs.declared.opcodes.Written.TheVariants as W
+use Rattle.dependency.specs.declared.opcodes.Opcode.{Opcode}
+use Rattle.dependency.specs.declared.opcodes.Opcode.TheVariants as O
 
 -- ---- the list of opcodes
 
@@ -116,6 +119,27 @@ is_opcode code = listed opcodes code
 unfoldable pub row_of : (code : ℕ) → OpcodeRow
 row_of code = row_among opcodes code
 
+-- the number of each case of the code's enum
+abbrev pub code_of : Opcode → ℕ
+code_of O.PushGuid = 0x00
+code_of O.PushVersion = 0x01
+code_of O.VersionStr = 0x02
+code_of O.And = 0x03
+code_of O.Or = 0x04
+code_of O.Not = 0x05
+code_of O.True = 0x06
+code_of O.False = 0x07
+code_of O.Eq = 0x08
+code_of O.Gt = 0x09
+code_of O.Gte = 0x0A
+code_of O.Lt = 0x0B
+code_of O.Lte = 0x0C
+code_of O.End = 0x0D
+
+-- the result is the case of this number, or 301 for a number past the end's
+abbrev pub Decodes : (code : ℕ) → std.Result Opcode Refusal → Type 0
+Decodes code r = MatchResult r (λ o. code_of o ≡ code) (λ e. (e ≡ UnknownOpcode) × (end_code < code))
+
 -- the length of a text with its zero; where it has none, one more than there are bytes
 unfoldable pub text_width : List ℕ → ℕ
 text_width [] = 1
@@ -153,10 +177,10 @@ read_refusals s = row (eqb (length s) 0) 305 ∷ operand_refusals (code_at s) (d
 unfoldable pub read_opcode : List ℕ → Answer
 read_opcode s = unless_refused refused (first_refusal (read_refusals s)) (success (code_at s ∷ after s ∷ []))
 
--- the answer that each case of the code's enum stands for
-abbrev pub read_answer : Read → Answer
-read_answer (R.Opcode code place) = success (code ∷ place ∷ [])
-read_answer (R.Refused n) = refused n
+-- the answer that the code's result stands for
+abbrev pub read_answer : std.Result Read Refusal → Answer
+read_answer (Ok read) = success (code_of read.opcode ∷ read.after ∷ [])
+read_answer (Err e) = refused (number e)
 
 -- ---- writing a single opcode into a room
 
@@ -183,10 +207,10 @@ write_opcode code operand room =
     unless_refused (λ n. wrote (refused n) room) (first_refusal (write_refusals code operand room))
     (wrote (success (length stored ∷ [])) (stored ++ drop (length stored) room))
 
--- the answer that each case of the code's enum stands for
-abbrev pub written_answer : Written → Answer
-written_answer (W.Success count) = success (count ∷ [])
-written_answer (W.Refused n) = refused n
+-- the answer that the code's result stands for
+abbrev pub written_answer : std.Result ℕ Refusal → Answer
+written_answer (Ok count) = success (count ∷ [])
+written_answer (Err e) = refused (number e)
 
 -- ---- for the theorems: the numbers that reader and writer refuse with
 

@@ -2,14 +2,14 @@
 --
 -- Refusals: 301 and 302 of the reader, 303 "empty or full stack", 304 "wrong kind of operand", 305 "no end or, the end taking nothing, not one truth there",
 -- "first in reading order, at one opcode the lowest".
-use Rattle.std.specs.Prelude.{ℕ, ◌≤◌, Bool, true, false, cond, not, ◌&&◌, List, [], ◌∷◌, ◌++◌, ltb, length, drop}
+use Rattle.std.specs.Prelude.{ℕ, Result, Ok, Err, ◌≤◌, Bool, true, false, cond, not, ◌&&◌, List, [], ◌∷◌, ◌++◌, ltb, length, drop}
 use Rattle.std.proofs.Math.Option.{Option, none, some}
 use Rattle.common.specs.Answers.{Answer, refused, success}
 use Rattle.common.specs.Refusals.{Row, row, first_refusal, unless_refused}
 use Rattle.dependency.specs.Opcodes.{Kind, version, truth}
 use Rattle.dependency.specs.Expression.{Reading, fault, ended, next, reading}
-use Rattle.dependency.specs.declared.validation.Validated.{Validated}
-use Rattle.dependency.specs.declared.validation.Validated.TheVariants as T
+use Rattle.common.specs.Refusal.{number}
+use Rattle.common.specs.declared.refusal.Refusal.{Refusal}
 
 -- ---- the stack as kinds, its top first
 
@@ -69,10 +69,10 @@ validity o = unless_refused refused o (success [])
 unfoldable pub validate_of : List ℕ → Answer
 validate_of s = validity (fault_from (reading s) [])
 
--- the answer that each case of the code's enum stands for
-abbrev pub validated_answer : Validated → Answer
-validated_answer T.Valid = success []
-validated_answer (T.Refused n) = refused n
+-- the answer that the code's result stands for
+abbrev pub validated_answer : Result Unit Refusal → Answer
+validated_answer (Ok u) = success []
+validated_answer (Err e) = refused (number e)
 
 -- for the theorems: the numbers that the test refuses with
 abbrev pub OfTest : ℕ → Type 0

@@ -2,8 +2,8 @@
 // is installed. A reader and a writer of single opcodes (`opcodes`), the test of an expression (`validation`), and its evaluation
 // against a table of installed firmware (`evaluation`, `installed`).
 //
-// No public function here has a `requires`: whatever the bytes, the room and the table are, the answer is a value or one of
-// document 02's refusal numbers.
+// No public function here has a `requires`: whatever the bytes, the room and the table are, the answer is a value or a refusal with
+// one of document 02's numbers.
 #![tactic(auto)]
 
 pub mod evaluation;
@@ -11,6 +11,6 @@ mod installed;
 pub mod opcodes;
 pub mod validation;
 
-pub use crate::evaluation::{Evaluated, evaluate};
-pub use crate::opcodes::{Read, Written, read_opcode, write_opcode};
-pub use crate::validation::{Validated, validate};
+pub use crate::evaluation::evaluate;
+pub use crate::opcodes::{Opcode, Read, read_opcode, write_opcode};
+pub use crate::validation::validate;

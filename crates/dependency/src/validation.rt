@@ -1,139 +1,98 @@
 // The test of a dependency expression: whether it can be evaluated, whatever firmware is installed.
-ghost use Rattle.std.specs.Prelude.{◌≡◌, [], ◌∷◌, ◌<◌};
-ghost use Rattle.std.proofs.Math.Option.{some};
-ghost use Rattle.dependency.specs.Opcodes.{truth};
+ghost use Rattle.std.specs.Prelude.{◌≡◌, ◌<◌, ◌≤◌, ◌^◌};
 ghost use Rattle.dependency.specs.Validation.{validated_answer, validate_of};
-ghost use Rattle.dependency.specs.Stack.{Follows, Held, digit_kind, ended_of, kinds_of, leaves_of, takes_of};
 
-use crate::opcodes::{END, Effect, Read, effect_of, read_opcode};
-
-// An expression that can be evaluated, or the refusal.
-#[derive(Clone, Copy)]
-pub enum Validated {
-    Valid,
-    Refused(u16),
-}
-
-// The kinds on the stack after an opcode, as a number, and how many they are; or the opcode's refusal.
-#[derive(Clone, Copy)]
-pub(crate) enum Next {
-    Kinds(u64, usize),
-    Refused(u16),
-}
+use crate::opcodes::{Opcode, read_opcode};
+use common::Refusal;
 
 const STACK_LIMIT: usize = 32;
 
-// The refusals of an empty or full stack, of a wrong kind of operand, and of no end, or not one truth there.
-const EMPTY_OR_FULL: u16 = 303;
+// The kinds of values on the stack.
+#[derive(Clone, Copy, Debug, PartialEq, Eq)]
+enum Kind {
+    Version = 0,
+    Truth = 1,
+}
 
-const WRONG_KIND: u16 = 304;
-
-const NO_END: u16 = 305;
-
-// The kinds on the stack are the binary digits of a number, the top the lowest.
-const VERSION: u64 = 0;
-
-const TRUTH: u64 = 1;
+// The kinds on the stack, and how many they are. They are the binary digits of a number, the top the lowest, and not an array: so the
+// two kinds on top are tested at once, and what an opcode leaves is no store in memory.
+#[derive(Clone, Copy)]
+struct Kinds {
+    digits: u64,
+    depth: usize,
+    ghost within: { depth ≤ 32 },
+    ghost small: { digits < 2 ^ depth },
+}
 
 // Tests an expression up to its end; what follows the end is ignored. Refused with 301 to 305, the first in reading order and at
 // one opcode the lowest. One pass.
-pub fn validate(expression: &[u8]) -> Validated
+pub fn validate(expression: &[u8]) -> Result<(), Refusal>
     ensures { validated_answer result ≡ validate_of expression.now }
 {
-    let mut kinds: u64 = 0;
-    let mut depth: usize = 0;
-    let mut at: usize = 0;
-    while at < expression.len() {
-        let rest = &expression[at..];
-        let read = read_opcode(rest);
-        match read {
-            Read::Opcode { opcode, after } => {
-                if opcode == END {
-                    return ended(kinds, depth);
-                }
-                let next = follow(effect_of(opcode), kinds, depth);
-                match next {
-                    Next::Kinds(new_kinds, new_depth) => {
-                        kinds = new_kinds;
-                        depth = new_depth;
-                        at += after;
-                    }
-                    Next::Refused(n) => {
-                        return Validated::Refused(n);
-                    }
-                }
+    let mut kinds = Kinds {
+        digits: 0,
+        depth: 0,
+    };
+    let mut rest = expression;
+    loop {
+        let read = read_opcode(rest)?;
+        if read.opcode == Opcode::End {
+            return kinds.end();
+        }
+        kinds.follow(read.opcode)?;
+        rest = &rest[read.after..];
+    }
+}
+
+impl Kinds {
+    ghost use Rattle.std.proofs.Math.Option.{some};
+    ghost use Rattle.dependency.specs.Opcodes.{code_of, row_of};
+    ghost use Rattle.dependency.specs.Validation.{validated_answer};
+    ghost use Rattle.dependency.specs.Stack.{Follows, ended_of, kinds_of, value_kind};
+
+    // The kinds after an opcode. Refused with 303, 304.
+    #[tactic(auto, using(crate::proofs::validation::Digits::leave_follows), unfolding(crate::specs::Opcodes::row_of, crate::specs::Opcodes::row_among, crate::specs::Opcodes::opcodes, crate::specs::Stack::kinds_of))]
+    fn follow(&mut self, opcode: Opcode) -> Result<(), Refusal>
+        ensures { Follows result (row_of (code_of opcode)).takes (row_of (code_of opcode)).leaves (kinds_of self.old.depth self.old.digits) (kinds_of self.new.depth self.new.digits) }
+    {
+        match opcode {
+            Opcode::PushGuid | Opcode::PushVersion => self.replace(0, 0, Kind::Version),
+            Opcode::True | Opcode::False => self.replace(0, 0, Kind::Truth),
+            Opcode::Not => self.replace(1, 0b1, Kind::Truth),
+            Opcode::And | Opcode::Or => self.replace(2, 0b11, Kind::Truth),
+            Opcode::Eq | Opcode::Gt | Opcode::Gte | Opcode::Lt | Opcode::Lte => {
+                self.replace(2, 0b00, Kind::Truth)
             }
-            Read::Refused(n) => {
-                return Validated::Refused(n);
-            }
+            Opcode::VersionStr | Opcode::End => Ok(()),
         }
     }
-    Validated::Refused(NO_END)
-}
 
-// The answer at the end: one truth must be on the stack, and nothing else.
-fn ended(kinds: u64, depth: usize) -> Validated
-    ensures { validated_answer result ≡ ended_of (kinds_of depth kinds) }
-{
-    if depth != 1 {
-        return Validated::Refused(NO_END);
+    // So many kinds are taken, which must be those asked for, by their digits, and one kind is left.
+    fn replace(&mut self, taken: usize, asked: u64, left: Kind) -> Result<(), Refusal>
+        requires few { taken ≤ 2 }
+        requires digits { asked < 2 ^ taken }
+        ensures { Follows result (kinds_of taken asked) (some (value_kind left)) (kinds_of self.old.depth self.old.digits) (kinds_of self.new.depth self.new.digits) }
+    {
+        if self.depth < taken || self.depth - taken >= STACK_LIMIT {
+            return Err(Refusal::StackExceeded);
+        }
+        if self.digits % (1 << taken) != asked {
+            return Err(Refusal::WrongKind);
+        }
+        *self = Kinds {
+            digits: self.digits / (1 << taken) * 2 + left as u64,
+            depth: self.depth - taken + 1,
+        };
+        Ok(())
     }
-    if kinds % 2 != TRUTH {
-        return Validated::Refused(NO_END);
-    }
-    Validated::Valid
-}
 
-// The kinds on the stack after an opcode of an effect. Refused with 303, 304.
-fn follow(effect: Effect, kinds: u64, depth: usize) -> Next
-    requires { Held depth kinds }
-    ensures { Follows result (takes_of effect) (leaves_of effect) (kinds_of depth kinds) }
-{
-    match effect {
-        Effect::PushesVersion => push(kinds, depth, VERSION),
-        Effect::PushesTruth => push(kinds, depth, TRUTH),
-        Effect::NegatesTruth => negate(kinds, depth),
-        Effect::JoinsTruths => take_two(kinds, depth, TRUTH),
-        Effect::ComparesVersions => take_two(kinds, depth, VERSION),
-        Effect::LeavesStack => Next::Kinds(kinds, depth),
+    // The answer at the end: one truth must be on the stack, and nothing else.
+    fn end(&self) -> Result<(), Refusal>
+        ensures { validated_answer result ≡ ended_of (kinds_of self.now.depth self.now.digits) }
+    {
+        if self.depth == 1 && self.digits == Kind::Truth as u64 {
+            return Ok(());
+        }
+        Err(Refusal::NoEnd)
     }
-}
-
-// One of a kind is pushed.
-fn push(kinds: u64, depth: usize, kind: u64) -> Next
-    requires { Held depth kinds × (kind < 2) }
-    ensures { Follows result [] (some (digit_kind kind)) (kinds_of depth kinds) }
-{
-    if depth >= STACK_LIMIT {
-        return Next::Refused(EMPTY_OR_FULL);
-    }
-    Next::Kinds(kinds * 2 + kind, depth + 1)
-}
-
-// A truth is taken, and a truth is left.
-fn negate(kinds: u64, depth: usize) -> Next
-    requires { Held depth kinds }
-    ensures { Follows result (truth ∷ []) (some truth) (kinds_of depth kinds) }
-{
-    if depth < 1 {
-        return Next::Refused(EMPTY_OR_FULL);
-    }
-    if kinds % 2 != TRUTH {
-        return Next::Refused(WRONG_KIND);
-    }
-    Next::Kinds(kinds, depth)
-}
-
-// Two of a kind are taken, and a truth is left. The two lowest digits are 00 for versions and 11 for truths.
-fn take_two(kinds: u64, depth: usize, kind: u64) -> Next
-    requires { Held depth kinds × (kind < 2) }
-    ensures { Follows result (digit_kind kind ∷ digit_kind kind ∷ []) (some truth) (kinds_of depth kinds) }
-{
-    if depth < 2 {
-        return Next::Refused(EMPTY_OR_FULL);
-    }
-    if kinds % 4 != 3 * kind {
-        return Next::Refused(WRONG_KIND);
-    }
-    Next::Kinds(kinds / 4 * 2 + TRUTH, depth - 1)
 }

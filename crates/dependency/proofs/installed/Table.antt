@@ -1,71 +1,58 @@
--- The table of installed firmware: as the two loops go through it, what it says of a GUID, and what it does not depend on.
+-- The table of installed firmware: as the code goes through it, what it says of a GUID, and what it does not depend on.
 use Prim.Native.Nat.{ℕ, zero, suc, ◌+◌, ◌≤◌, ◌<◌}
 use mathlib.Core.Path.{◌≡◌, refl, sym, ap, ap₂, fun_ext, ◌∙◌}
 use mathlib.Core.Bool.{Bool, true, false, cond, ◌&&◌, and_assoc, and-true, true≢false}
 use mathlib.Core.List.{List, [], ◌∷◌}
-use mathlib.Core.Option.{none, some, none-ne-some}
+use mathlib.Core.Option.{Option, none, some, none-ne-some}
 use native.Mathlib.Numerals.{add-one}
 use native.Mathlib.Omega.{arith}
 use borrow.Author.Tests.{eq-eqb, ne_eqb, eqb-true}
-use lib.Bits.{bit_or, or_zero_l, or_add_and, and_le_r}
 use lib.Dec.{eqb}
+use lib.Pointwise.{pointwise}
 use lib.ListN.{length, get_or, take, drop, drop_of_length-le}
 use lib.Seq.{drop-cons, get_or-take, length-take-le}
 use Rattle.dependency.specs.Installed.{same, first_with, installed_in}
 use Rattle.dependency.proofs.validation.Passing.{both}
 
--- ---- two GUIDs, byte for byte: the marks of the bytes passed are gathered by OR
+-- ---- the code's search
 
--- 0 exactly where both are
-or_is_zero : (a b : ℕ) → eqb (bit_or a b) 0 ≡ (eqb a 0 && eqb b 0)
-or_is_zero zero b = rw (or_zero_l b)
-or_is_zero (suc a) b = rw (ne_eqb (suc a) 0 (λ z. omega arith)) (ne_eqb (bit_or (suc a) b) 0 (λ e. omega (arith, or_add_and (suc a) b, and_le_r (suc a) b)))
+-- `==` of byte strings
+bytes_same : (a b : List ℕ) → pointwise eqb a b ≡ same a b
+unfolding same
+bytes_same [] [] = refl
+bytes_same [] (y ∷ b) = refl
+bytes_same (x ∷ a) [] = refl
+bytes_same (x ∷ a) (y ∷ b) = ap (λ (t : Bool). eqb x y && t) (bytes_same a b)
 
-module _ (a b : List ℕ) (i d : ℕ) (whole : (eqb d 0 && same (drop i a) (drop i b)) ≡ same a b) where
-  pub same_end : length a ≤ i → length b ≤ i → eqb d 0 ≡ same a b
-  unfolding same
-  same_end h l =
-      let w : (eqb d 0 && same (drop i a) (drop i b)) ≡ eqb d 0 = rw (drop_of_length-le a {i = i} h, drop_of_length-le b {i = i} l, and-true) in
-      sym w ∙ whole
-
-  pub same_next : (mark : ℕ) → i < length a → i < length b → eqb mark 0 ≡ eqb (get_or a i 0) (get_or b i 0)
-      → (eqb (bit_or d mark) 0 && same (drop (i + 1) a) (drop (i + 1) b)) ≡ same a b
-  unfolding same
-  same_next mark h l e =
-      let w : (eqb (bit_or d mark) 0 && same (drop (i + 1) a) (drop (i + 1) b)) ≡ (eqb d 0 && same (drop i a) (drop i b)) =
-      rw (add-one i, drop-cons a i 0 h, drop-cons b i 0 l, or_is_zero d mark, e, and_assoc) in
-      w ∙ whole
-
--- ---- the first used row
-
-module _ (rows : List (List ℕ)) (versions : List ℕ) (used : ℕ) (guid : List ℕ) (i : ℕ)
-    (whole : first_with (drop i (take used rows)) (drop i versions) guid ≡ installed_in rows versions used guid) where
-  pub rows_end : length rows ≡ 16 → used ≤ 16 → used ≤ i → none ≡ installed_in rows versions used guid
+-- the rows and versions left say what all of them say
+module _ (rows : List (List ℕ)) (versions guid : List ℕ) (whole : Option ℕ) (left : first_with rows versions guid ≡ whole) where
+  pub no_row : length rows ≡ 0 → none ≡ whole
   unfolding first_with
-  rows_end l u h =
-      let long = length-take-le used rows (omega arith) in
-      let w : first_with (drop i (take used rows)) (drop i versions) guid ≡ none = rw (drop_of_length-le (take used rows) {i = i} (omega arith)) in
-      sym w ∙ whole
+  no_row e = go rows e left
+    where
+      go : (rows : List (List ℕ)) → length rows ≡ 0 → first_with rows versions guid ≡ whole → none ≡ whole
+      go [] e w = w
+      go (r ∷ rows) e w = absurd (omega arith)
 
-  module _ (l : length rows ≡ 16) (v : length versions ≡ 16) (u : used ≤ 16) (h : i < used) where
-    at_row : first_with (drop i (take used rows)) (drop i versions) guid
-        ≡ cond (same (get_or rows i []) guid) (some (get_or versions i 0)) (first_with (drop (i + 1) (take used rows)) (drop (i + 1) versions) guid)
+  pub no_version : length versions ≡ 0 → none ≡ whole
+  unfolding first_with
+  no_version e = go rows versions e left
+    where
+      go : (rows : List (List ℕ)) (versions : List ℕ) → length versions ≡ 0 → first_with rows versions guid ≡ whole → none ≡ whole
+      go [] versions e w = w
+      go (r ∷ rows) [] e w = w
+      go (r ∷ rows) (v ∷ versions) e w = absurd (omega arith)
+
+  module _ (r : List ℕ) (rest : List (List ℕ)) (v : ℕ) (more : List ℕ) (er : rows ≡ r ∷ rest) (ev : versions ≡ v ∷ more) where
+    at_row : (b : Bool) → pointwise eqb r guid ≡ b → cond b (some v) (first_with rest more guid) ≡ whole
     unfolding first_with
-    at_row =
-        let long = length-take-le used rows (omega arith) in
-        rw (add-one i, drop-cons (take used rows) i [] (omega arith), drop-cons versions i 0 (omega arith), get_or-take used rows i [] h)
+    at_row b e = rw (← e, bytes_same r guid) (rw (er, ev) at left)
 
-    pub rows_hit : (b : Bool) → b ≡ same (get_or rows i []) guid → b ≡ true → some (get_or versions i 0) ≡ installed_in rows versions used guid
-    rows_hit b e t = sym (at_row ∙ rw (sym e ∙ t)) ∙ whole
+    pub row_hit : pointwise eqb r guid ≡ true → some v ≡ whole
+    row_hit = at_row true
 
-    pub rows_next : (b : Bool) → b ≡ same (get_or rows i []) guid → b ≡ false
-        → first_with (drop (i + 1) (take used rows)) (drop (i + 1) versions) guid ≡ installed_in rows versions used guid
-    rows_next b e t = sym (at_row ∙ rw (sym e ∙ t)) ∙ whole
-
-pub rows_start : (rows : List (List ℕ)) (versions : List ℕ) (used : ℕ) (guid : List ℕ)
-    → first_with (drop 0 (take used rows)) (drop 0 versions) guid ≡ installed_in rows versions used guid
-unfolding installed_in
-rows_start rows versions used guid = refl
+    pub row_next : pointwise eqb r guid ≡ false → first_with rest more guid ≡ whole
+    row_next = at_row false
 
 -- ---- what the table says of a GUID
 

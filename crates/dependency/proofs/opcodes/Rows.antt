@@ -7,13 +7,13 @@ use mathlib.Core.Option.{some}
 use native.Mathlib.Nat.{zero-add}
 use native.Mathlib.Omega.{arith}
 use borrow.Author.Tests.{ltb-true, ltb-false, eq-eqb, ne_eqb, eqb-true, eqb-false}
-use lib.Dec.{eqb, ltb, lit≤}
+use mathlib.Core.Logic.{◌⊎◌, inl, inr}
+use lib.Dec.{eqb, ltb, lit≤, lit<}
 use lib.ListN.{length, get_or, take, drop}
 use lib.Seq.{get_or-drop, get_or-take}
-use Rattle.dependency.specs.Opcodes.{Kind, version, truth, bare, OpcodeRow, opcodes, end_code, end_row, listed, row_among, is_opcode, row_of, text_width, width}
-use Rattle.dependency.specs.Stack.{takes_of, leaves_of, Coded}
-use Rattle.dependency.specs.declared.opcodes.Effect.{Effect}
-use Rattle.dependency.specs.declared.opcodes.Effect.TheVariants.{PushesVersion, PushesTruth, NegatesTruth, JoinsTruths, ComparesVersions, LeavesStack}
+use Rattle.dependency.specs.Opcodes.{bare, OpcodeRow, opcodes, end_code, end_row, listed, row_among, is_opcode, row_of, code_of}
+use Rattle.dependency.specs.declared.opcodes.Opcode.{Opcode}
+use Rattle.dependency.specs.declared.opcodes.Opcode.TheVariants as O
 
 -- ---- a row by its place
 
@@ -97,105 +97,43 @@ unfolding opcodes
 bare_row code h =
     from_row (λ (o : OpcodeRow). o.operand ≡ bare) 3 code (refl, (refl, (refl, (refl, (refl, (refl, (refl, (refl, (refl, (refl, (refl, tt))))))))))) refl h
 
--- the length of each opcode's operand
-pub width_guid : (code : ℕ) (s : List ℕ) → code ≡ 0 → 16 ≡ width (row_of code).operand s
-unfolding opcodes row_among row_of width
-width_guid code s e = rw e
+-- ---- the code's opcodes: in the list, the end last
 
-pub width_number : (code : ℕ) (s : List ℕ) → code ≡ 1 → 4 ≡ width (row_of code).operand s
-unfolding opcodes row_among row_of width
-width_number code s e = rw e
+pub last_code : (o : Opcode) → (o ≡ O.End) ⊎ (code_of o < end_code)
+last_code O.PushGuid = inr (lit< tt)
+last_code O.PushVersion = inr (lit< tt)
+last_code O.VersionStr = inr (lit< tt)
+last_code O.And = inr (lit< tt)
+last_code O.Or = inr (lit< tt)
+last_code O.Not = inr (lit< tt)
+last_code O.True = inr (lit< tt)
+last_code O.False = inr (lit< tt)
+last_code O.Eq = inr (lit< tt)
+last_code O.Gt = inr (lit< tt)
+last_code O.Gte = inr (lit< tt)
+last_code O.Lt = inr (lit< tt)
+last_code O.Lte = inr (lit< tt)
+last_code O.End = inl refl
 
-pub width_text : (code w : ℕ) (s : List ℕ) → code ≡ 2 → w ≡ text_width s → w ≡ width (row_of code).operand s
-unfolding opcodes row_among row_of width
-width_text code w s e q = q ∙ rw e
+pub code_known : (o : Opcode) → code_of o ≤ end_code
+code_known o = elim (last_code o) as (λ x. code_of o ≤ end_code) [ inl e ↦ rw e (lit≤ tt) | inr h ↦ omega arith ]
 
-pub width_bare : (code : ℕ) (s : List ℕ) → (code ≡ 0 → ⊥) → (code ≡ 1 → ⊥) → (code ≡ 2 → ⊥) → 0 ≡ width (row_of code).operand s
-unfolding width
-width_bare code s a b d = rw (bare_row code (omega arith))
+pub code_early : (o : Opcode) → (o ≡ O.End → ⊥) → code_of o < end_code
+code_early o n = elim (last_code o) as (λ x. code_of o < end_code) [ inl e ↦ absurd (n e) | inr h ↦ h ]
 
--- ---- the opcodes of a range
-
-each_below : (P : OpcodeRow → Type 0) (rows : List OpcodeRow) (d : OpcodeRow) → Each P rows → (k : ℕ) → k < length rows → P (get_or rows k d)
-each_below P [] d e k h = absurd (omega arith)
-each_below P (r ∷ rows) d e zero h = e.0
-each_below P (r ∷ rows) d e (suc k) h = each_below P rows d e.1 k (omega arith)
-
-in_rows : (P : OpcodeRow → Type 0) (lo n code : ℕ) → Each P (take n (drop lo opcodes)) → n ≤ length (take n (drop lo opcodes)) → lo ≤ code → code < lo + n
-    → P (row_of code)
-in_rows P lo n code e all h l =
-    let q : lo + (code - lo) ≡ code = omega arith in
-    let within : code - lo < n = omega arith in
-    rw (row-place code) (rw (← q, ← get_or-drop lo opcodes (code - lo) end_row, ← get_or-take n (drop lo opcodes) (code - lo) end_row within)
-    (each_below P (take n (drop lo opcodes)) end_row e (code - lo) (omega arith)))
-
--- ---- what an opcode of an effect takes and leaves
-
-abbrev pub Has : Effect → OpcodeRow → Type 0
-Has e o = (o.takes ≡ takes_of e) × (o.leaves ≡ leaves_of e)
-
-module _ (code : ℕ) where
-  pushes_version : code ≤ 1 → Has PushesVersion (row_of code)
-  unfolding opcodes
-  pushes_version h = in_rows (Has PushesVersion) 0 2 code ((refl, refl), ((refl, refl), tt)) (lit≤ tt) (omega arith) (omega arith)
-
-  pushes_truth : 6 ≤ code → code ≤ 7 → Has PushesTruth (row_of code)
-  unfolding opcodes
-  pushes_truth l h = in_rows (Has PushesTruth) 6 2 code ((refl, refl), ((refl, refl), tt)) (lit≤ tt) l (omega arith)
-
-  negates_truth : code ≡ 5 → Has NegatesTruth (row_of code)
-  unfolding opcodes
-  negates_truth e = in_rows (Has NegatesTruth) 5 1 code ((refl, refl), tt) (lit≤ tt) (omega arith) (omega arith)
-
-  joins_truths : 3 ≤ code → code ≤ 4 → Has JoinsTruths (row_of code)
-  unfolding opcodes
-  joins_truths l h = in_rows (Has JoinsTruths) 3 2 code ((refl, refl), ((refl, refl), tt)) (lit≤ tt) l (omega arith)
-
-  compares_versions : 8 ≤ code → code ≤ 12 → Has ComparesVersions (row_of code)
-  unfolding opcodes
-  compares_versions l h =
-      in_rows (Has ComparesVersions) 8 5 code ((refl, refl), ((refl, refl), ((refl, refl), ((refl, refl), ((refl, refl), tt))))) (lit≤ tt) l (omega arith)
-
-  leaves_stack : ((code ≡ 2 → ⊥) → 13 ≤ code) → Has LeavesStack (row_of code)
-  unfolding opcodes
-  leaves_stack h = go (eqb code 2) refl
-    where
-      go : (b : Bool) → eqb code 2 ≡ b → Has LeavesStack (row_of code)
-      go true e = in_rows (Has LeavesStack) 2 1 code ((refl, refl), tt) (lit≤ tt) (omega (arith, eqb-true code 2 e)) (omega (arith, eqb-true code 2 e))
-      go false e = from_row (Has LeavesStack) 13 code ((refl, refl), tt) (refl, refl) (h (eqb-false code 2 e))
-
-pub coded_columns : (e : Effect) (code : ℕ) → Coded e code → Has e (row_of code)
-unfolding Coded
-coded_columns PushesVersion code h = pushes_version code h
-coded_columns PushesTruth code h = pushes_truth code h.0 h.1
-coded_columns NegatesTruth code h = negates_truth code h
-coded_columns JoinsTruths code h = joins_truths code h.0 h.1
-coded_columns ComparesVersions code h = compares_versions code h.0 h.1
-coded_columns LeavesStack code h = leaves_stack code h
-
--- every opcode before the end but the text leaves one value
-pub record OneLeft (o : OpcodeRow) : Type 0 where
-  pub kind : Kind
-  pub is : o.leaves ≡ some kind
-
-pub one_left : (code : ℕ) → code < end_code → (code ≡ 2 → ⊥) → OneLeft (row_of code)
-unfolding opcodes
-one_left code h n = go (ltb code 2) refl
-  where
-    v : {o : OpcodeRow} → o.leaves ≡ some version → OneLeft o
-    v e = record { kind = version; is = e }
-
-    t : {o : OpcodeRow} → o.leaves ≡ some truth → OneLeft o
-    t e = record { kind = truth; is = e }
-
-    go : (b : Bool) → ltb code 2 ≡ b → OneLeft (row_of code)
-    go true e = in_rows OneLeft 0 2 code (v refl, (v refl, tt)) (lit≤ tt) (omega arith) (ltb-true code 2 e)
-    go false e = in_rows OneLeft 3 10 code (t refl, (t refl, (t refl, (t refl, (t refl, (t refl, (t refl, (t refl, (t refl, (t refl, tt)))))))))) (lit≤ tt) (omega (arith, ltb-false code 2 e)) h
-
--- no opcode takes more than two
-pub few_taken : (code : ℕ) → code < end_code → length (row_of code).takes ≤ 2
-unfolding opcodes
-few_taken code h =
-    in_rows (λ (o : OpcodeRow). length o.takes ≤ 2) 0 13 code
-    (lit≤ tt, (lit≤ tt, (lit≤ tt, (lit≤ tt, (lit≤ tt, (lit≤ tt, (lit≤ tt, (lit≤ tt, (lit≤ tt, (lit≤ tt, (lit≤ tt, (lit≤ tt, (lit≤ tt, tt)))))))))))))
-    (lit≤ tt) (omega arith) h
+-- after the first two
+pub code_late : (o : Opcode) → (o ≡ O.PushGuid → ⊥) → (o ≡ O.PushVersion → ⊥) → 2 ≤ code_of o
+code_late O.PushGuid a b = absurd (a refl)
+code_late O.PushVersion a b = absurd (b refl)
+code_late O.VersionStr a b = lit≤ tt
+code_late O.And a b = lit≤ tt
+code_late O.Or a b = lit≤ tt
+code_late O.Not a b = lit≤ tt
+code_late O.True a b = lit≤ tt
+code_late O.False a b = lit≤ tt
+code_late O.Eq a b = lit≤ tt
+code_late O.Gt a b = lit≤ tt
+code_late O.Gte a b = lit≤ tt
+code_late O.Lt a b = lit≤ tt
+code_late O.Lte a b = lit≤ tt
+code_late O.End a b = lit≤ tt

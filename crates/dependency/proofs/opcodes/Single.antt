@@ -1,22 +1,20 @@
 -- A single opcode: the answers of reader and writer at each row of their tables, and what an answer of the reader says.
-use Prim.Native.Nat.{ℕ, ◌+◌, ◌-◌, ◌≤◌, ◌<◌}
-use mathlib.Core.Path.{◌≡◌, refl, sym, ap, ◌∙◌}
+use Prim.Native.Nat.{ℕ, suc, ◌+◌, ◌-◌, ◌≤◌, ◌<◌}
+use mathlib.Core.Path.{◌≡◌, refl, sym, ap, ap₂, ◌∙◌}
 use mathlib.Core.List.{List, [], ◌∷◌, ◌++◌}
 use mathlib.Core.Option.{Option, none, some}
 use borrow.Author.Tests.{eq-eqb, ne_eqb, lt-ltb, le-ltb, ltb-false, eqb-false}
 use native.Mathlib.Omega.{arith}
-use lib.ListN.{length, take, drop, length-drop}
-use lib.Seq.{sets, take_all, length-take-le}
+use mathlib.Core.Bool.{not, false}
+use borrow.Rule.Slice.PartMut.{put_mid}
+use lib.ListN.{length, take, drop, set, length-drop}
+use lib.Seq.{length-take-le}
 use Rattle.common.specs.Answers.{refused, success}
 use Rattle.common.specs.Refusals.{first_refusal, unless_refused}
-use Rattle.common.proofs.Lists.{sets_front}
 use Rattle.common.proofs.Refusals.{row_applies, row-passed, row_passes, no_row}
-use Rattle.dependency.specs.Opcodes.{end_code, row_of, width, operand_refusals, code_at, after, read_refusals, read_opcode, wrote, opcode_bytes, write_refusals, write_opcode}
-use Rattle.dependency.proofs.opcodes.Rows.{known-opcode, unknown_opcode, opcode-known}
-
--- the part of a slice from a place on, as the code has it
-pub tail_is : (s : List ℕ) (k : ℕ) → take (length s - k) (drop k s) ≡ drop k s
-tail_is s k = take_all (length s - k) (drop k s) (rw length-drop (omega arith))
+use Rattle.dependency.specs.declared.opcodes.Opcode.{Opcode}
+use Rattle.dependency.specs.Opcodes.{end_code, row_of, is_opcode, code_of, width, operand_refusals, code_at, after, read_refusals, read_opcode, wrote, opcode_bytes, write_refusals, write_opcode}
+use Rattle.dependency.proofs.opcodes.Rows.{code_known, known-opcode, unknown_opcode, opcode-known}
 
 -- ---- the reader
 
@@ -32,29 +30,34 @@ pub read_none : (s : List ℕ) → length s ≡ 0 → refused 305 ≡ read_opcod
 unfolding read_refusals
 read_none s e = sym (read_refused s 305 (row_applies _ _ _ (eq-eqb _ _ e)))
 
-module _ (s : List ℕ) (some_bytes : length s ≡ 0 → ⊥) where
-  pub read_unknown : end_code < code_at s → refused 301 ≡ read_opcode s
+-- bytes that begin with a number, and the code's opcode of that number
+module _ (s : List ℕ) (code : ℕ) (rest : List ℕ) (e : s ≡ code ∷ rest) where
+  some_bytes : suc (length rest) ≡ 0 → ⊥
+  some_bytes z = omega arith
+
+  pub read_unknown : end_code < code → refused 301 ≡ read_opcode s
   unfolding read_refusals operand_refusals
-  read_unknown h = sym (read_refused s 301 (row_passes _ _ _ _ (ne_eqb _ _ some_bytes) (row_applies _ _ _ (unknown_opcode _ h))))
+  read_unknown h = rw e (sym (read_refused (code ∷ rest) 301 (row_passes _ _ _ _ (ne_eqb _ _ some_bytes) (row_applies _ _ _ (unknown_opcode _ h)))))
 
-  -- the operand's length is asked of the bytes after the opcode
-  module _ (rest : List ℕ) (w : ℕ) (tail : rest ≡ drop 1 s) (known : code_at s ≤ end_code) (e : w ≡ width (row_of (code_at s)).operand rest) where
-    long : w ≡ width (row_of (code_at s)).operand (drop 1 s)
-    long = e ∙ ap (width (row_of (code_at s)).operand) tail
+  module _ (o : Opcode) (is : code_of o ≡ code) (w : ℕ) (wide : w ≡ width (row_of (code_of o)).operand rest) where
+    known : not (is_opcode code) ≡ false
+    known = known-opcode code (rw (← is) (code_known o))
 
-    pub read_cut : length s ≤ w → refused 302 ≡ read_opcode s
+    long : w ≡ width (row_of code).operand rest
+    long = wide ∙ ap (λ (k : ℕ). width (row_of k).operand rest) is
+
+    pub read_cut : length rest < w → refused 302 ≡ read_opcode s
     unfolding read_refusals operand_refusals
     read_cut l =
-        let cut : length (drop 1 s) < width (row_of (code_at s)).operand (drop 1 s) = rw (← long, length-drop) (omega arith) in
-        sym (read_refused s 302
-        (row_passes _ _ _ _ (ne_eqb _ _ some_bytes) (row_passes _ _ _ _ (known-opcode _ known) (row_applies _ _ _ (lt-ltb _ _ cut)))))
+        let cut : length rest < width (row_of code).operand rest = rw (← long) l in
+        rw e (sym (read_refused (code ∷ rest) 302 (row_passes _ _ _ _ (ne_eqb _ _ some_bytes) (row_passes _ _ _ _ known (row_applies _ _ _ (lt-ltb _ _ cut))))))
 
-    pub read_done : 1 + w ≤ length s → success (code_at s ∷ (1 + w) ∷ []) ≡ read_opcode s
+    pub read_done : w ≤ length rest → success (code_of o ∷ (1 + w) ∷ []) ≡ read_opcode s
     unfolding read_opcode read_refusals operand_refusals after
     read_done l =
-        let fits : width (row_of (code_at s)).operand (drop 1 s) ≤ length (drop 1 s) = rw (← long, length-drop) (omega arith) in
-        let passed : first_refusal (read_refusals s) ≡ none = row_passes _ _ _ _ (ne_eqb _ _ some_bytes) (row_passes _ _ _ _ (known-opcode _ known) (row_passes _ _ _ _ (le-ltb _ _ fits) no_row)) in
-        rw (passed, long)
+        let fits : width (row_of code).operand rest ≤ length rest = rw (← long) l in
+        let passed : first_refusal (read_refusals (code ∷ rest)) ≡ none = row_passes _ _ _ _ (ne_eqb _ _ some_bytes) (row_passes _ _ _ _ known (row_passes _ _ _ _ (le-ltb _ _ fits) no_row)) in
+        rw (e, passed, long, is)
 
 -- what an opcode that was read says of the bytes
 module _ (s : List ℕ) where
@@ -111,23 +114,37 @@ module _ (code : ℕ) (operand room : List ℕ) where
   unfolding write_refusals operand_refusals
   write_unknown h = writes_refused 301 (row_applies _ _ _ (unknown_opcode _ h))
 
-  pub write_cut : (w : ℕ) → code ≤ end_code → w ≡ width (row_of code).operand operand → length operand < w
-      → wrote (refused 302) room ≡ write_opcode code operand room
-  unfolding write_refusals operand_refusals
-  write_cut w h e l = writes_refused 302 (row_passes _ _ _ _ (known-opcode _ h) (row_applies _ _ _ (lt-ltb _ _ (rw e at l))))
+  module _ (o : Opcode) (is : code_of o ≡ code) (w : ℕ) (wide : w ≡ width (row_of (code_of o)).operand operand) where
+    code_fits : not (is_opcode code) ≡ false
+    code_fits = known-opcode code (rw (← is) (code_known o))
 
-  pub write_short : (w : ℕ) → code ≤ end_code → w ≡ width (row_of code).operand operand → w ≤ length operand → length room < 1 + w
-      → wrote (refused 5) room ≡ write_opcode code operand room
-  unfolding write_refusals operand_refusals
-  write_short w h e l r =
-      writes_refused 5
-      (row_passes _ _ _ _ (known-opcode _ h) (row_passes _ _ _ _ (le-ltb _ _ (rw e at l)) (row_applies _ _ _ (lt-ltb _ _ (rw e at r)))))
+    wide_as : w ≡ width (row_of code).operand operand
+    wide_as = wide ∙ ap (λ (k : ℕ). width (row_of k).operand operand) is
 
-  pub write_done : (w : ℕ) (out : List ℕ) → code ≤ end_code → w ≡ width (row_of code).operand operand → w ≤ length operand → 1 + w ≤ length room
-      → out ≡ sets room 0 (code ∷ take w operand) → wrote (success ((1 + w) ∷ [])) out ≡ write_opcode code operand room
-  unfolding write_opcode write_refusals operand_refusals opcode_bytes
-  write_done w out h e l r o =
-      let passed : first_refusal (write_refusals code operand room) ≡ none = row_passes _ _ _ _ (known-opcode _ h) (row_passes _ _ _ _ (le-ltb _ _ (rw e at l)) (row_passes _ _ _ _ (le-ltb _ _ (rw e at r)) no_row)) in
-      let long : length (opcode_bytes code operand) ≡ 1 + w = opcode-length code operand (rw e at l) ∙ ap (λ (n : ℕ). 1 + n) (sym e) in
-      let front : out ≡ opcode_bytes code operand ++ drop (length (opcode_bytes code operand)) room = o ∙ ap (λ (n : ℕ). sets room 0 (code ∷ take n operand)) e ∙ sets_front (opcode_bytes code operand) room (omega arith) in
-      rw (passed, front, long)
+    pub write_cut : length operand < w → wrote (refused 302) room ≡ write_opcode code operand room
+    unfolding write_refusals operand_refusals
+    write_cut l = writes_refused 302 (row_passes _ _ _ _ code_fits (row_applies _ _ _ (lt-ltb _ _ (rw wide_as at l))))
+
+    module _ (l : w ≤ length operand) where
+      pub write_short : length room < 1 + w → wrote (refused 5) room ≡ write_opcode code operand room
+      unfolding write_refusals operand_refusals
+      write_short r =
+          writes_refused 5 (row_passes _ _ _ _ code_fits (row_passes _ _ _ _ (le-ltb _ _ (rw wide_as at l)) (row_applies _ _ _ (lt-ltb _ _ (rw wide_as at r)))))
+
+      -- the store of the opcode and the copy of the operand are one front
+      front : 1 + w ≤ length room → put_mid 1 (1 + w - 1) (set room 0 code) (take w operand) ≡ code ∷ take w operand ++ drop (1 + w) room
+      front = go room
+        where
+          go : (room : List ℕ) → 1 + w ≤ length room → put_mid 1 (1 + w - 1) (set room 0 code) (take w operand) ≡ code ∷ take w operand ++ drop (1 + w) room
+          go [] r = absurd (omega arith)
+          go (x ∷ room) r = let q : 1 + w - 1 ≡ w = omega arith in let k : 1 + w ≡ suc w = omega arith in rw (q, k)
+
+      pub write_done : (out : List ℕ) → 1 + w ≤ length room → out ≡ take w operand
+          → wrote (success ((1 + w) ∷ [])) (put_mid 1 (1 + w - 1) (set room 0 code) out) ≡ write_opcode code operand room
+      unfolding write_opcode write_refusals operand_refusals opcode_bytes
+      write_done out r e =
+          let passed : first_refusal (write_refusals code operand room) ≡ none = row_passes _ _ _ _ code_fits (row_passes _ _ _ _ (le-ltb _ _ (rw wide_as at l)) (row_passes _ _ _ _ (le-ltb _ _ (rw wide_as at r)) no_row)) in
+          let long : length (opcode_bytes code operand) ≡ 1 + w = opcode-length code operand (rw wide_as at l) ∙ ap (λ (n : ℕ). 1 + n) (sym wide_as) in
+          let stored : put_mid 1 (1 + w - 1) (set room 0 code) out ≡ opcode_bytes code operand ++ drop (length (opcode_bytes code operand)) room =
+          ap (put_mid 1 (1 + w - 1) (set room 0 code)) e ∙ front r ∙ ap₂ (λ (k n : ℕ). code ∷ take k operand ++ drop n room) wide_as (sym long) in
+          rw (passed, stored, long)

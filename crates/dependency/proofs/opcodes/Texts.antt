@@ -1,31 +1,49 @@
 -- The length of a text with its zero, as the loop finds it, and what it says of the bytes.
 use Prim.Native.Nat.{ℕ, zero, suc, ◌+◌, ◌-◌, ◌≤◌, ◌<◌}
 use mathlib.Core.Path.{◌≡◌, refl, ap, ◌∙◌}
-use mathlib.Core.Bool.{Bool, true, false, cond}
+use mathlib.Core.Bool.{Bool, true, false, cond, not}
 use mathlib.Core.List.{List, [], ◌∷◌}
 use native.Mathlib.Numerals.{add-one}
 use native.Mathlib.Omega.{arith}
-use borrow.Author.Tests.{eq-eqb, ne_eqb, eqb-true, eqb-false}
+use borrow.Author.Tests.{ltb-false, eq-eqb, ne_eqb, eqb-true, eqb-false}
 use lib.Dec.{eqb}
 use lib.ListN.{length, get_or, drop, drop_of_length-le}
 use lib.Seq.{drop-cons}
+use Rattle.std.specs.Prelude.{Some, None, nat_lt}
+use Rattle.std.specs.List.{position, position_or_len}
 use Rattle.dependency.specs.Opcodes.{text_width}
 
--- what the loop keeps: the bytes passed and the width of what is left make the width of the whole; at the end, at a zero, at another byte
-pub text_end : (s : List ℕ) (i : ℕ) → i + text_width (drop i s) ≡ text_width s → length s ≤ i → i + 1 ≡ text_width s
+width_place : (s : List ℕ) → text_width s ≡ position_or_len (λ x. eqb x 0) s + 1
 unfolding text_width
-text_end s i w h = let e : text_width (drop i s) ≡ 1 = rw (drop_of_length-le s {i = i} h) in omega arith
+width_place [] = refl
+width_place (x ∷ s) = go (eqb x 0) (width_place s)
+  where
+    go : (b : Bool) → text_width s ≡ position_or_len (λ y. eqb y 0) s + 1 → cond b 1 (text_width s + 1) ≡ cond (not b) (1 + position_or_len (λ y. eqb y 0) s) 0 + 1
+    go true h = refl
+    go false h = omega arith
 
-pub text_hit : (s : List ℕ) (i : ℕ) → i + text_width (drop i s) ≡ text_width s → i < length s → get_or s i 0 ≡ 0 → i + 1 ≡ text_width s
-unfolding text_width
-text_hit s i w h z = let e : text_width (drop i s) ≡ 1 = rw (drop-cons s i 0 h, eq-eqb (get_or s i 0) 0 z) in omega arith
+place_within : (s : List ℕ) → position_or_len (λ x. eqb x 0) s ≤ length s
+place_within [] = omega arith
+place_within (x ∷ s) = go (eqb x 0) (place_within s)
+  where
+    go : (b : Bool) → position_or_len (λ y. eqb y 0) s ≤ length s → cond (not b) (1 + position_or_len (λ y. eqb y 0) s) 0 ≤ suc (length s)
+    go true h = omega arith
+    go false h = omega arith
 
-pub text_next : (s : List ℕ) (i : ℕ) → i + text_width (drop i s) ≡ text_width s → i < length s → (get_or s i 0 ≡ 0 → ⊥)
-    → i + 1 + text_width (drop (i + 1) s) ≡ text_width s
-unfolding text_width
-text_next s i w h z =
-    let e : text_width (drop i s) ≡ text_width (drop (i + 1) s) + 1 = rw (add-one i, drop-cons s i 0 h, ne_eqb (get_or s i 0) 0 z) in
-    omega arith
+-- by the place of the first zero
+pub text_at : (s : List ℕ) (i : ℕ) → position (λ x. eqb x 0) s ≡ Some i → i + 1 ≡ text_width s
+text_at s i e = go (nat_lt (position_or_len (λ x. eqb x 0) s) (length s)) e
+  where
+    go : (b : Bool) → cond b (Some (position_or_len (λ x. eqb x 0) s)) None ≡ Some i → i + 1 ≡ text_width s
+    go true q = let z : position_or_len (λ x. eqb x 0) s ≡ i = cc in omega (arith, width_place s)
+    go false q = cc
+
+pub text_out : (s : List ℕ) → position (λ x. eqb x 0) s ≡ None → length s + 1 ≡ text_width s
+text_out s e = go (nat_lt (position_or_len (λ x. eqb x 0) s) (length s)) refl e
+  where
+    go : (b : Bool) → nat_lt (position_or_len (λ x. eqb x 0) s) (length s) ≡ b → cond b (Some (position_or_len (λ x. eqb x 0) s)) None ≡ None → length s + 1 ≡ text_width s
+    go true p q = cc
+    go false p q = let l = ltb-false _ _ p in omega (arith, width_place s, place_within s)
 
 -- ---- what the width says of the bytes
 

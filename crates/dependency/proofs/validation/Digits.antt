@@ -1,25 +1,28 @@
 -- The kinds on the stack as a number: what each shape of opcode makes of them.
 use Prim.Native.Nat.{ℕ, zero, suc, ◌+◌, ◌-◌, ◌*◌, ◌/◌, ◌%◌, ◌^◌, ◌≤◌, ◌<◌}
-use mathlib.Core.Path.{◌≡◌, refl, ap, ap₂, ◌∙◌}
-use mathlib.Core.Bool.{Bool, true, false, not, ◌&&◌}
+use mathlib.Core.Path.{◌≡◌, refl, sym, ap, ap₂, ◌∙◌}
+use mathlib.Core.Bool.{Bool, true, false, not, ◌&&◌, and-true}
 use mathlib.Core.List.{List, [], ◌∷◌}
 use mathlib.Core.Option.{Option, none, some}
 use native.Mathlib.Numerals.{add-one}
 use native.Mathlib.Nat.{pow-suc, pow-le-pow_right}
 use native.Mathlib.Omega.{arith}
-use borrow.Author.Tests.{lt-ltb, le-ltb, eqb-true, eq-eqb}
+use borrow.Author.Tests.{lt-ltb, le-ltb, eqb-true, eqb-false, eq-eqb, ne_eqb}
 use lib.Dec.{eqb, lit<}
-use lib.ListN.{length}
+use lib.ListN.{length, drop, length-drop}
 use Rattle.common.specs.Refusals.{first_refusal}
 use Rattle.common.proofs.Refusals.{row_applies, row_passes}
 use Rattle.dependency.specs.Opcodes.{Kind, version, truth}
 use Rattle.common.specs.Answers.{refused, success}
 use Rattle.dependency.specs.Expression.{ended}
 use Rattle.dependency.specs.Validation.{stack_limit, kinds_after, same_kind, on_top, stack_refusals, fault_from, validity}
-use Rattle.dependency.specs.Stack.{ended_of, takes_of, leaves_of, digit_kind, kinds_of, Held, Moves, Follows}
-use Rattle.dependency.specs.declared.opcodes.Effect.{Effect}
-use Rattle.dependency.specs.declared.validation.Next.{Next}
-use Rattle.dependency.proofs.validation.Passing.{passing}
+use Rattle.std.specs.Prelude.{Ok}
+use denote.Enum.Declared.{tag_of}
+use Rattle.dependency.specs.contracts.validation.Kind.{the_type}
+use Rattle.dependency.specs.declared.validation.Kind.{Kind as CodeKind}
+use Rattle.dependency.specs.declared.validation.Kind.TheVariants as K
+use Rattle.dependency.specs.Stack.{ended_of, value_kind, digit_kind, kinds_of, Follows}
+use Rattle.dependency.proofs.validation.Passing.{passing, top_on}
 
 -- ---- the rows of the test at one opcode
 
@@ -71,108 +74,101 @@ same_digit zero (suc (suc a)) h l = absurd (omega arith)
 same_digit (suc zero) (suc (suc a)) h l = absurd (omega arith)
 same_digit (suc (suc k)) a h l = absurd (omega arith)
 
--- ---- pushing one
+-- the code's kinds as digits
+pub digit_small : (k : CodeKind) → tag_of the_type k < 2
+digit_small K.Version = lit< tt
+digit_small K.Truth = lit< tt
 
-module _ (d b k : ℕ) (held : Held d b) (digit : k < 2) where
-  pub push_full : 32 ≤ d → first_refusal (stack_refusals [] (some (digit_kind k)) (kinds_of d b)) ≡ some 303
-  unfolding kinds_after
-  push_full h = let e = kinds-length d b in full_stack [] _ _ (omega arith) (omega arith)
+digit_value : (k : CodeKind) → digit_kind (tag_of the_type k) ≡ value_kind k
+digit_value K.Version = refl
+digit_value K.Truth = refl
 
-  push_small : d < 32 → b * 2 + k < 2 ^ (d + 1)
-  push_small h = let s = held.small in rw (add-one d, pow-suc 2 d) (omega arith)
+-- ---- the kinds on top, as digits
 
-  pub push_fits : d < 32 → b * 2 + k < 2 ^ 64
-  push_fits h =
-      let w : 2 ^ (d + 1) ≤ 2 ^ 63 = pow-le-pow_right (lit< tt) {i = d + 1} {j = 63} (omega arith) in
-      let s = push_small h in
-      omega arith
-
-  pub push_moves : d < 32 → Moves (d + 1) (b * 2 + k) [] (some (digit_kind k)) (kinds_of d b)
-  unfolding kinds_after on_top
-  push_moves h =
-      let e = kinds-length d b in
-      record {
-        passed = passing [] (some (digit_kind k)) (kinds_of d b) (record { enough = omega arith; within = omega arith; asked = refl });
-        left = kinds_push d b k digit;
-        held = record { within = omega arith; small = push_small h };
-      }
-
--- ---- a truth for a truth
-
-module _ (d b : ℕ) (held : Held d b) where
-  pub negate_short : d < 1 → first_refusal (stack_refusals (truth ∷ []) (some truth) (kinds_of d b)) ≡ some 303
-  negate_short h = let e = kinds-length d b in short_stack _ _ _ (omega arith)
-
-  negate_within : 1 ≤ d → length (kinds_after (truth ∷ []) (some truth) (kinds_of d b)) ≤ 32
-  unfolding kinds_after
-  negate_within h = let e = kinds-length (d - 1) (b / 2) in let w = held.within in rw (kinds_top d b h) (omega arith)
-
-  pub negate_wrong : 1 ≤ d → (b % 2 ≡ 1 → ⊥) → first_refusal (stack_refusals (truth ∷ []) (some truth) (kinds_of d b)) ≡ some 304
-  unfolding on_top
-  negate_wrong h n =
-      let e = kinds-length d b in
-      let low : b % 2 ≡ 0 = omega arith in
-      wrong_kind _ _ _ (omega arith) (negate_within h) (rw (kinds_top d b h, low))
-
-  pub negate_moves : 1 ≤ d → b % 2 ≡ 1 → Moves d b (truth ∷ []) (some truth) (kinds_of d b)
-  unfolding on_top kinds_after
-  negate_moves h low =
-      let e = kinds-length d b in
-      record {
-        passed = passing (truth ∷ []) (some truth) (kinds_of d b) (record { enough = omega arith; within = negate_within h; asked = rw (kinds_top d b h, low) });
-        left = rw (kinds_top d b h, low);
-        held = held;
-      }
-
--- ---- two of a kind, and a truth left
-
-not_both : (k a c : ℕ) → (k ≡ a → k ≡ c → ⊥) → (eqb k a && (eqb k c && true)) ≡ false
-not_both k a c n = go (eqb k a) refl (eqb k c) refl
+-- two digits are those of a number below 4
+two_digits : (a x : ℕ) → a < 4 → x < 4 → (eqb (a % 2) (x % 2) && (eqb (a / 2 % 2) (x / 2 % 2) && true)) ≡ eqb a x
+two_digits a x h l = go (eqb (a % 2) (x % 2)) refl (eqb (a / 2 % 2) (x / 2 % 2)) refl
   where
-    go : (x : Bool) → eqb k a ≡ x → (y : Bool) → eqb k c ≡ y → (x && (y && true)) ≡ false
-    go false p y q = refl
-    go true p false q = refl
-    go true p true q = absurd (n (eqb-true k a p) (eqb-true k c q))
+    go : (p : Bool) → eqb (a % 2) (x % 2) ≡ p → (q : Bool) → eqb (a / 2 % 2) (x / 2 % 2) ≡ q → (p && (q && true)) ≡ eqb a x
+    go true e true f = let i = eqb-true _ _ e in let j = eqb-true _ _ f in let same : a ≡ x = omega arith in sym (eq-eqb a x same)
+    go false e q f = let i = eqb-false _ _ e in let other : a ≡ x → ⊥ = λ z. i (ap (λ (y : ℕ). y % 2) z) in sym (ne_eqb a x other)
+    go true e false f = let j = eqb-false _ _ f in let other : a ≡ x → ⊥ = λ z. j (ap (λ (y : ℕ). y / 2 % 2) z) in sym (ne_eqb a x other)
 
-low_two : (b k : ℕ) → k < 2 → b % 4 ≡ 3 * k → (b % 2 ≡ k) × (b / 2 % 2 ≡ k)
-low_two b zero h e = (omega arith, omega arith)
-low_two b (suc zero) h e = (omega arith, omega arith)
-low_two b (suc (suc k)) h e = absurd (omega arith)
+top_digits : (n a d b : ℕ) → n ≤ 2 → a < 2 ^ n → n ≤ d → on_top (kinds_of n a) (kinds_of d b) ≡ eqb a (b % 2 ^ n)
+unfolding on_top kinds_of
+top_digits zero a d b t s h = let e : a ≡ 0 = omega arith in let f : b % 1 ≡ 0 = omega arith in rw (e, f)
+top_digits (suc zero) a d b t s h =
+    let e : a % 2 ≡ a = omega arith in
+    rw (kinds_top d b (omega arith), same_digit (a % 2) (b % 2) (omega arith) (omega arith), and-true, e)
+top_digits (suc (suc zero)) a d b t s h =
+    let low : b % 4 % 2 ≡ b % 2 = omega arith in
+    let high : b % 4 / 2 % 2 ≡ b / 2 % 2 = omega arith in
+    rw (kinds_two d b h, same_digit (a % 2) (b % 2) (omega arith) (omega arith), same_digit (a / 2 % 2) (b / 2 % 2) (omega arith) (omega arith), ← low, ← high)
+    (two_digits a (b % 4) (omega arith) (omega arith))
+top_digits (suc (suc (suc n))) a d b t s h = absurd (omega arith)
 
-module _ (d b k : ℕ) (held : Held d b) (digit : k < 2) where
-  pub two_short : d < 2 → first_refusal (stack_refusals (digit_kind k ∷ digit_kind k ∷ []) (some truth) (kinds_of d b)) ≡ some 303
-  two_short h = let e = kinds-length d b in short_stack _ _ _ (omega arith)
+-- the kinds below are the digits above
+below_digits : (n d b : ℕ) → n ≤ 2 → n ≤ d → drop n (kinds_of d b) ≡ kinds_of (d - n) (b / 2 ^ n)
+below_digits zero d b t h = let e : d - 0 ≡ d = omega arith in let f : b / 1 ≡ b = omega arith in rw (e, f)
+below_digits (suc zero) d b t h = rw (kinds_top d b (omega arith))
+below_digits (suc (suc zero)) d b t h = rw (kinds_two d b h)
+below_digits (suc (suc (suc n))) d b t h = absurd (omega arith)
 
-  two_within : 2 ≤ d → length (kinds_after (digit_kind k ∷ digit_kind k ∷ []) (some truth) (kinds_of d b)) ≤ 32
-  unfolding kinds_after
-  two_within h = let e = kinds-length (d - 2) (b / 4) in let w = held.within in rw (kinds_two d b h) (omega arith)
+-- ---- so many kinds are taken, and one is left
 
-  pub two_wrong : 2 ≤ d → (b % 4 ≡ 3 * k → ⊥) → first_refusal (stack_refusals (digit_kind k ∷ digit_kind k ∷ []) (some truth) (kinds_of d b)) ≡ some 304
-  unfolding on_top
-  two_wrong h n =
-      let e = kinds-length d b in
-      wrong_kind _ _ _ (omega arith) (two_within h)
-      (rw (kinds_two d b h, same_digit k (b % 2) digit (omega arith), same_digit k (b / 2 % 2) digit (omega arith))
-      (not_both k (b % 2) (b / 2 % 2) (λ p q. n (omega arith))))
+-- a shifted one is the power, as the code has it
+pub power : (n : ℕ) → n ≤ 2 → 1 * 2 ^ n % 18446744073709551616 ≡ 2 ^ n
+power zero h = refl
+power (suc zero) h = refl
+power (suc (suc zero)) h = refl
+power (suc (suc (suc n))) h = absurd (omega arith)
 
-  pub two_moves : 2 ≤ d → b % 4 ≡ 3 * k → Moves (d - 1) (b / 4 * 2 + 1) (digit_kind k ∷ digit_kind k ∷ []) (some truth) (kinds_of d b)
-  unfolding on_top kinds_after
-  two_moves h four =
-      let e = kinds-length d b in
-      let low : b % 2 ≡ k = (low_two b k digit four).0 in
-      let high : b / 2 % 2 ≡ k = (low_two b k digit four).1 in
-      let one : same_kind (digit_kind k) (digit_kind k) ≡ true = same_digit k k digit digit ∙ eq-eqb k k refl in
-      let less : d - 1 ≡ d - 2 + 1 = omega arith in
-      let deep : d ≡ suc (suc (d - 2)) = omega arith in
-      let s : b < 2 ^ suc (suc (d - 2)) = rw (← deep) held.small in
-      let t : b < 2 ^ (d - 2) * 2 * 2 = rw (pow-suc 2 (suc (d - 2)), pow-suc 2 (d - 2)) at s in
-      let w = held.within in
-      record {
-        passed = passing (digit_kind k ∷ digit_kind k ∷ []) (some truth) (kinds_of d b)
-            (record { enough = omega arith; within = two_within h; asked = rw (kinds_two d b h, low, high, one) });
-        left = rw (less, kinds_push (d - 2) (b / 4) 1 (omega arith), kinds_two d b h);
-        held = record { within = omega arith; small = rw (less, add-one (d - 2), pow-suc 2 (d - 2)) (omega arith) };
-      }
+module _ (n a d b : ℕ) (few : n ≤ 2) (digits : a < 2 ^ n) where
+  pub replace_short : (k : Kind) → d < n → first_refusal (stack_refusals (kinds_of n a) (some k) (kinds_of d b)) ≡ some 303
+  replace_short k h = let e = kinds-length d b in let f = kinds-length n a in short_stack _ _ _ (omega arith)
+
+  module _ (h : n ≤ d) where
+    after-length : (k : Kind) → length (kinds_after (kinds_of n a) (some k) (kinds_of d b)) ≡ d - n + 1
+    unfolding kinds_after
+    after-length k = let e = kinds-length d b in let f = kinds-length n a in let l = length-drop (length (kinds_of n a)) (kinds_of d b) in omega arith
+
+    pub replace_full : (k : Kind) → 32 ≤ d - n → first_refusal (stack_refusals (kinds_of n a) (some k) (kinds_of d b)) ≡ some 303
+    replace_full k w = let e = kinds-length d b in let f = kinds-length n a in let l = after-length k in full_stack _ _ _ (omega arith) (omega arith)
+
+    module _ (w : d - n < 32) where
+      pub replace_wrong : (k : Kind) → (b % 2 ^ n ≡ a → ⊥) → first_refusal (stack_refusals (kinds_of n a) (some k) (kinds_of d b)) ≡ some 304
+      replace_wrong k other =
+          let e = kinds-length d b in
+          let f = kinds-length n a in
+          let l = after-length k in
+          wrong_kind _ _ _ (omega arith) (omega arith) (top_digits n a d b few digits h ∙ ne_eqb a (b % 2 ^ n) (λ z. other (sym z)))
+
+      pub replace_follows : (k : CodeKind) → b % 2 ^ n ≡ a
+          → Follows (Ok tt) (kinds_of n a) (some (value_kind k)) (kinds_of d b) (kinds_of (d - n + 1) (b / 2 ^ n * 2 + tag_of the_type k))
+      unfolding Follows kinds_after
+      replace_follows k same =
+          let e = kinds-length d b in
+          let f = kinds-length n a in
+          let l = after-length (value_kind k) in (
+            passing (kinds_of n a) (some (value_kind k)) (kinds_of d b)
+            (record { enough = omega arith; within = omega arith; asked = top_digits n a d b few digits h ∙ eq-eqb a (b % 2 ^ n) (sym same) }),
+            rw (← digit_value k, f, below_digits n d b few h) (kinds_push (d - n) (b / 2 ^ n) (tag_of the_type k) (digit_small k)),
+          )
+
+-- the digits after that are those of a stack so deep
+pub replace_small : (n d b k : ℕ) → n ≤ 2 → n ≤ d → b < 2 ^ d → k < 2 → b / 2 ^ n * 2 + k < 2 ^ (d - n + 1)
+replace_small zero d b k t h s l = let e : d - 0 + 1 ≡ suc d = omega arith in rw (e, pow-suc 2 d) (omega arith)
+replace_small (suc zero) d b k t h s l =
+    let e : d - 1 + 1 ≡ suc (d - 1) = omega arith in
+    let deep : d ≡ suc (d - 1) = omega arith in
+    let small : b < 2 ^ (d - 1) * 2 = rw (deep, pow-suc 2 (d - 1)) at s in
+    rw (e, pow-suc 2 (d - 1)) (omega arith)
+replace_small (suc (suc zero)) d b k t h s l =
+    let e : d - 2 + 1 ≡ suc (d - 2) = omega arith in
+    let deep : d ≡ suc (suc (d - 2)) = omega arith in
+    let small : b < 2 ^ (d - 2) * 2 * 2 = rw (deep, pow-suc 2 (suc (d - 2)), pow-suc 2 (d - 2)) at s in
+    rw (e, pow-suc 2 (d - 2)) (omega arith)
+replace_small (suc (suc (suc n))) d b k t h s l = absurd (omega arith)
 
 -- ---- the end
 
@@ -186,23 +182,18 @@ end_depth (suc (suc d)) b n = go (digit_kind (b % 2))
     go version = refl
     go truth = refl
 
-pub end_kind : (d b : ℕ) → d ≡ 1 → (b % 2 ≡ 1 → ⊥) → refused 305 ≡ ended_of (kinds_of d b)
+pub end_kind : (d b : ℕ) → d ≡ 1 → b < 2 ^ d → (b ≡ 1 → ⊥) → refused 305 ≡ ended_of (kinds_of d b)
 unfolding ended_of fault_from kinds_of
-end_kind d b e n = let low : b % 2 ≡ 0 = omega arith in rw (e, low)
+end_kind d b e s n = let t : b < 2 = rw e at s in let low : b ≡ 0 = omega arith in rw (e, low)
 
-pub end_passed : (d b : ℕ) → d ≡ 1 → b % 2 ≡ 1 → success [] ≡ ended_of (kinds_of d b)
+pub end_passed : (d b : ℕ) → d ≡ 1 → b ≡ 1 → success [] ≡ ended_of (kinds_of d b)
 unfolding ended_of fault_from kinds_of
 end_passed d b e low = rw (e, low)
 
 -- ---- an opcode that takes and leaves nothing
 
-pub leave_moves : (d b : ℕ) → Held d b → Moves d b [] none (kinds_of d b)
-unfolding kinds_after on_top
-leave_moves d b held =
+pub leave_follows : (d b : ℕ) → d ≤ 32 → Follows (Ok tt) [] none (kinds_of d b) (kinds_of d b)
+unfolding Follows kinds_after on_top
+leave_follows d b w =
     let e = kinds-length d b in
-    let w = held.within in
-    record { passed = passing [] none (kinds_of d b) (record { enough = omega arith; within = omega arith; asked = refl }); left = refl; held = held }
-
--- what an effect makes of the kinds, at the effect that an opcode has
-pub follows_at : (x : Effect) (r : Next) (f : Effect) (ks : List Kind) → f ≡ x → Follows r (takes_of x) (leaves_of x) ks → Follows r (takes_of f) (leaves_of f) ks
-follows_at x r f ks e moved = rw e moved
+    (passing [] none (kinds_of d b) (record { enough = omega arith; within = omega arith; asked = refl }), refl)

@@ -15,7 +15,7 @@ pub both : (a b : Bool) → (a && b) ≡ true → (a ≡ true) × (b ≡ true)
 both true b e = (refl, e)
 both false b e = absurd (true≢false (sym e))
 
-same_kind_lem : (k x : Kind) → same_kind k x ≡ true → x ≡ k
+pub same_kind_lem : (k x : Kind) → same_kind k x ≡ true → x ≡ k
 same_kind_lem version version e = refl
 same_kind_lem version truth e = absurd (true≢false (sym e))
 same_kind_lem truth version e = absurd (true≢false (sym e))

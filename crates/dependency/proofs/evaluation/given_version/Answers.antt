@@ -1,16 +1,13 @@
--- `given_version` meets its contract, for the two opcodes that give a version and for the others.
-use borrow.Author.Rules.{rules}
+-- `given_version` meets its contract: the two opcodes that give a version, and the others.
+use Rattle.std.proofs.Common.{rules}
 use Rattle.dependency.proofs.evaluation.Runs.{given_guid, given_number, given_none}
 use Rattle.dependency.proofs.evaluation.given_version.Goals as goal
 
-pub find_version-requires : goal.find_version-requires
-find_version-requires c = let pre = c.requires in (pre.0, pre.1 (search rules), pre.2, pre.3)
+pub returns-in-PushGuid : goal.returns-in-PushGuid
+returns-in-PushGuid c = given_guid _ _ _ _ (search rules) (search rules)
 
-pub returns-then-opcode-eq-PUSH_GUID : goal.returns-then-opcode-eq-PUSH_GUID
-returns-then-opcode-eq-PUSH_GUID c = given_guid _ _ _ _ (search rules) c.find_version.ensures
+pub returns-in-PushVersion : goal.returns-in-PushVersion
+returns-in-PushVersion c = given_number _ _ _ _ (search rules) (search rules)
 
-pub returns-then-opcode-eq-PUSH_VERSION : goal.returns-then-opcode-eq-PUSH_VERSION
-returns-then-opcode-eq-PUSH_VERSION c = given_number _ _ _ _ (search rules) c.u32_at.ensures
-
-pub returns : goal.returns
-returns c = given_none _ _ _ (search rules) (search rules)
+pub returns-in_default : goal.returns-in_default
+returns-in_default c = given_none _ _ _ (search rules) (search rules)

@@ -1,14 +1,13 @@
--- `run` meets its contract: the bytes from here on pass the test at the kinds of the stack, and say what the whole says. So nothing is taken
--- from an empty stack and nothing is put past its end.
-use Prim.Native.Nat.{◌-◌, ◌≤◌}
-use mathlib.Core.Path.{◌≡◌}
+-- `run` meets its contract: the bytes left pass the test at the kinds of the stack, and say what the whole says. So nothing is taken from an empty stack and nothing is put past
+-- its end.
 use lib.ListN.{length}
-use Rattle.dependency.specs.Installed.{installed_in}
+use Rattle.dependency.specs.Installed.{first_with}
+use Rattle.dependency.specs.Stack.{stack_of}
 use Rattle.dependency.proofs.evaluation.Runs.{Running}
 use Rattle.dependency.proofs.evaluation.run.Given as goal
 
-abbrev pub invariant-loop-at : goal.invariant-loop-at
-invariant-loop-at l = (l.at ≤ length l.expression) × (length l.values ≡ 32) × Running (installed_in l.rows l.versions l.used) l.expression l.values l.depth l.at
+abbrev pub invariant-loop-read : goal.invariant-loop-read
+invariant-loop-read l = Running (first_with l.installed.rows.now l.installed.versions.now) l.expression l.rest (stack_of l.values.depth l.values.values)
 
-abbrev pub decreases-loop-at : goal.decreases-loop-at
-decreases-loop-at l = length l.expression - l.at
+abbrev pub decreases-loop-read : goal.decreases-loop-read
+decreases-loop-read l = length l.rest

@@ -1,16 +1,22 @@
 -- `read_opcode` meets its contract: each return is a row of the reader's table.
-use borrow.Author.Rules.{rules}
-use Rattle.dependency.proofs.opcodes.Single.{tail_is, read_none, read_unknown, read_cut, read_done}
+use Rattle.std.proofs.Common.{rules, ◌≡◌, ◌∙◌, ap, Err}
+use Rattle.dependency.specs.Opcodes.{read_answer}
+use Rattle.dependency.specs.declared.opcodes.Read.{Read}
+use Rattle.common.specs.declared.refusal.Refusal.TheVariants.{UnknownOpcode}
+use Rattle.dependency.proofs.opcodes.Single.{read_none, read_unknown, read_cut, read_done}
 use Rattle.dependency.proofs.opcodes.read_opcode.Goals as goal
 
-pub returns-then-s-eq0 : goal.returns-then-s-eq0
-returns-then-s-eq0 c = read_none _ (search rules)
+pub returns-in_default : goal.returns-in_default
+returns-in_default c = read_none _ c.in_default.ensures.cases
 
-pub returns-then-opcode-gt-END : goal.returns-then-opcode-gt-END
-returns-then-opcode-gt-END c = read_unknown _ (search rules) (search rules)
+pub returns-in_err-opcode : goal.returns-in_err-opcode
+returns-in_err-opcode c =
+    let h = c.in_err-opcode.ensures in
+    let r : c.from_residual.result ≡ Err UnknownOpcode = search rules in
+    ap read_answer r ∙ read_unknown _ _ _ c.in-Some.ensures.cases.0 h.1
 
 pub returns-then-rest-width : goal.returns-then-rest-width
-returns-then-rest-width c = read_cut _ (search rules) _ _ (tail_is c.args.s.now 1) (search rules) c.operand_width-width.ensures (search rules)
+returns-then-rest-width c = read_cut _ _ _ c.in-Some.ensures.cases.0 _ c.in_ok-opcode.ensures _ c.operand_width-width.ensures (search rules)
 
 pub returns : goal.returns
-returns c = read_done _ (search rules) _ _ (tail_is c.args.s.now 1) (search rules) c.operand_width-width.ensures (search rules)
+returns c = read_done _ _ _ c.in-Some.ensures.cases.0 _ c.in_ok-opcode.ensures _ c.operand_width-width.ensures (search rules)

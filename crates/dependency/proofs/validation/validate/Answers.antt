@@ -1,97 +1,45 @@
--- `validate` meets its contract: what the test says of the bytes from here on, at the kinds held, is what it says of the whole.
-use Prim.Native.Nat.{ℕ, ◌+◌, ◌-◌, ◌≤◌}
-use mathlib.Core.Path.{◌≡◌, refl}
-use mathlib.Core.List.{List, []}
+-- `validate` meets its contract: what the test says of the bytes left, at the kinds held, is what it says of the whole.
 use native.Mathlib.Omega.{arith}
-use borrow.Author.Rules.{rules}
-use lib.Dec.{lit<, lit≤}
-use lib.ListN.{length, drop}
-use Rattle.common.specs.Answers.{Answer, refused}
-use Rattle.dependency.specs.Opcodes.{end_code}
-use Rattle.dependency.specs.Expression.{reading}
-use Rattle.dependency.specs.Validation.{fault_from, validate_of}
-use Rattle.dependency.specs.Stack.{Coded, takes_of, leaves_of, ended_of, kinds_of, Held, Follows}
-use Rattle.dependency.specs.declared.opcodes.Read.TheVariants.{Opcode}
-use Rattle.dependency.specs.declared.opcodes.Effect.{Effect}
-use Rattle.dependency.specs.declared.validation.Next.{Next}
-use Rattle.dependency.specs.declared.validation.Next.TheVariants.{Refused, Kinds}
-use Rattle.dependency.proofs.opcodes.Single.{tail_is}
-use Rattle.dependency.proofs.validation.Turns.{validate_out, validate_refused, validate_within, validate_ended, validate_stack, validate_next}
+use Rattle.std.proofs.Common.{rules, ◌≡◌, ◌∙◌, sym, ap, refl, Err}
+use Rattle.dependency.specs.Opcodes.{code_of}
+use Rattle.dependency.specs.Stack.{kinds_of}
+use Rattle.dependency.specs.Validation.{validated_answer}
+use Rattle.dependency.specs.declared.opcodes.Opcode.TheVariants.{End}
+use Rattle.dependency.proofs.opcodes.Rows.{code_early}
+use Rattle.dependency.proofs.opcodes.Single.{reads_within}
+use Rattle.dependency.proofs.validation.Turns.{fewer, validate_refused, validate_ended, validate_stack, validate_next}
 use Rattle.dependency.proofs.validation.validate.Goals as goal
-use Rattle.dependency.proofs.validation.validate.Goals.{In-Opcode}
 
-pub loop-at-init : goal.loop-at-init
+pub loop-read-init : goal.loop-read-init
 unfolding kinds_of
-loop-at-init c = (search rules, record { within = lit≤ tt; small = lit< tt }, refl)
+loop-read-init c = refl
 
--- where an opcode was read: the laws of a turn, at what the loop holds
-module _ (c : In-Opcode) where
-  abbrev s : List ℕ
-  s = c.args.expression.now
+pub returns-in_err-read : goal.returns-in_err-read
+returns-in_err-read c =
+    let r : c.from_residual.result ≡ Err c.in_err-read.field-0.0 = search rules in
+    ap validated_answer r ∙ validate_refused _ _ _ c.loop-read.invariant _ c.in_err-read.ensures
 
-  abbrev at : ℕ
-  at = c.loop-at.at
+pub returns-then-eq : goal.returns-then-eq
+returns-then-eq c =
+    let e : c.in_ok-read.read.opcode ≡ End = search rules in
+    validate_ended _ _ _ c.loop-read.invariant _ _ c.in_ok-read.ensures _ (ap code_of e) c.end.ensures
 
-  abbrev depth : ℕ
-  depth = c.loop-at.depth
+pub returns-in_err-follow : goal.returns-in_err-follow
+returns-in_err-follow c =
+    let r : c.from_residual-in_err-follow.result ≡ Err c.in_err-follow.field-0.0 = search rules in
+    let h = code_early c.in_ok-read.read.opcode (search rules) in
+    ap validated_answer r ∙ validate_stack _ _ _ c.loop-read.invariant _ _ c.in_ok-read.ensures (λ e. omega arith) _ _ c.in_err-follow.ensures
 
-  abbrev kinds : ℕ
-  kinds = c.loop-at.kinds
+pub slice_bounds-rest-count : goal.slice_bounds-rest-count
+slice_bounds-rest-count c = (reads_within _ _ _ (sym c.in_ok-read.ensures)).1
 
-  abbrev opcode : ℕ
-  opcode = c.in-Opcode.opcode
+pub slice_bounds-rest-start : goal.slice_bounds-rest-start
+slice_bounds-rest-start c = let w = reads_within _ _ _ (sym c.in_ok-read.ensures) in omega arith
 
-  abbrev place : ℕ
-  place = c.in-Opcode.after
+pub loop-read-smaller : goal.loop-read-smaller
+loop-read-smaller c = fewer _ _ _ c.in_ok-read.ensures
 
-  same : fault_from (reading (drop at s)) (kinds_of depth kinds) ≡ fault_from (reading s) []
-  same = c.loop-at.invariant.2
-
-  read : c.read_opcode-read.result ≡ Opcode opcode place
-  read = search rules
-
-  within : (1 ≤ place) × (place ≤ length s - at)
-  within = validate_within s at depth kinds same _ (tail_is s at) c.read_opcode-read.result c.read_opcode-read.ensures opcode place read
-
-  ends : (t : Answer) → opcode ≡ end_code → t ≡ ended_of (kinds_of depth kinds) → t ≡ validate_of s
-  ends = validate_ended s at depth kinds same _ (tail_is s at) c.read_opcode-read.result c.read_opcode-read.ensures opcode place read
-
-  module _ (h : opcode ≡ end_code → ⊥) (f : Effect) (coded : Coded f opcode) (nx : Next) (follows : Follows nx (takes_of f) (leaves_of f) (kinds_of depth kinds)) where
-    refuses : (n : ℕ) → nx ≡ Refused n → refused n ≡ validate_of s
-    refuses = validate_stack s at depth kinds same _ (tail_is s at) c.read_opcode-read.result c.read_opcode-read.ensures opcode place read h f coded nx follows
-
-    goes_on : (b d : ℕ) → nx ≡ Kinds b d → (fault_from (reading (drop (at + place) s)) (kinds_of d b) ≡ fault_from (reading s) []) × Held d b
-    goes_on = validate_next s at depth kinds same _ (tail_is s at) c.read_opcode-read.result c.read_opcode-read.ensures opcode place read h f coded nx follows
-
-pub returns-then-opcode-eq-END : goal.returns-then-opcode-eq-END
-returns-then-opcode-eq-END c = ends (goal.at.returns-then-opcode-eq-END c).In-Opcode _ (search rules) c.ended.ensures
-
-pub follow-next-requires : goal.follow-next-requires
-follow-next-requires c = c.loop-at.invariant.1
-
-pub overflow_add-at : goal.overflow_add-at
-overflow_add-at c = let w = within (goal.at.overflow_add-at c).In-Opcode in omega arith
-
-pub loop-at-smaller : goal.loop-at-smaller
-loop-at-smaller c = let w = within (goal.at.loop-at-smaller c).In-Opcode in omega arith
-
-pub loop-at-preserved : goal.loop-at-preserved
-loop-at-preserved c =
-    let w = within (goal.at.loop-at-preserved c).In-Opcode in
-    let effect = c.effect_of in
-    let turned = goes_on (goal.at.loop-at-preserved c).In-Opcode (search rules) effect.result effect.ensures _ c.follow-next.ensures c.in-Kinds.new_kinds c.in-Kinds.new_depth (search rules) in
-    (omega arith, turned.1, turned.0)
-
-pub returns-in-Refused-next : goal.returns-in-Refused-next
-returns-in-Refused-next c =
-    let effect = c.effect_of in
-    refuses (goal.at.returns-in-Refused-next c).In-Opcode (search rules) effect.result effect.ensures _ c.follow-next.ensures _ (search rules)
-
-pub returns-in-Refused : goal.returns-in-Refused
-returns-in-Refused c =
-    let l = c.loop-at in
-    let s = c.args.expression.now in
-    validate_refused s l.at l.depth l.kinds l.invariant.2 _ (tail_is s l.at) c.read_opcode-read.result c.read_opcode-read.ensures _ (search rules)
-
-pub returns : goal.returns
-returns c = validate_out c.args.expression.now c.loop-at.at _ _ c.loop-at.invariant.2 (search rules)
+pub loop-read-preserved : goal.loop-read-preserved
+loop-read-preserved c =
+    let h = code_early c.in_ok-read.read.opcode (search rules) in
+    validate_next _ _ _ c.loop-read.invariant _ _ c.in_ok-read.ensures (λ e. omega arith) _ c.in_ok-follow.ensures
