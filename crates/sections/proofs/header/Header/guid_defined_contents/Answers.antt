@@ -8,12 +8,12 @@ use Rattle.sections.proofs.header.Tests.{guid_204, guid_packed, guid_open}
 use borrow.Author.Rules.{rules}
 use Rattle.sections.proofs.header.Header.guid_defined_contents.Goals as goal
 
+-- the data offset and the attributes, each from its two bytes
 pub returns-then-offset-own : goal.returns-then-offset-own
 returns-then-offset-own c =
     rw c.requires.1
     (guid_204 _ _ _ _ (c.u16_of-offset.ensures ∙ le_two c.args.s.now _ _ (omega arith)) (rw c.grown-own.ensures at c.then-offset-own.either))
 
--- the data offset and the attributes, each from its two bytes
 pub returns-then-attributes-eq1 : goal.returns-then-attributes-eq1
 returns-then-attributes-eq1 c =
     let told = c.u16_of-attributes.ensures ∙ le_two c.args.s.now _ _ (omega arith) in
