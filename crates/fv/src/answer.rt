@@ -10,7 +10,8 @@ ghost use Rattle.sections.specs.Search.{found_answer};
 ghost use Rattle.fv.specs.Answer.{answer_bytes, entry_words, Gives, GivesList, list_outcome, outcome_stored, two_stored};
 
 use block_service::Moved;
-use dependency::{Evaluated, Read, Written};
+use common::Refusal;
+use dependency::Read;
 use sections::append::Appended;
 use sections::search::Found;
 use volume::ExtEntry;
@@ -140,38 +141,33 @@ pub(crate) fn entry_outcome(entry: ExtEntry) -> Outcome
     }
 }
 
-// What is answered for an opcode that was read: the opcode, and the place after its operand.
-pub(crate) fn opcode_outcome(read: Read) -> Outcome
+// What is answered for an opcode that was read: its number, and the place after its operand.
+pub(crate) fn opcode_outcome(read: Result<Read, Refusal>) -> Outcome
     ensures { Gives result (read_answer read) }
 {
     match read {
-        Read::Opcode { opcode, after } => succeeded(opcode as u64, after as u64),
-        Read::Refused(number) => refusal(number),
+        Ok(Read { opcode, after }) => succeeded(u64::from(u8::from(opcode)), after as u64),
+        Err(e) => refusal(e.number()),
     }
 }
 
 // What is answered for an opcode that was written: how many bytes were stored.
-pub(crate) fn written_outcome(written: Written) -> Outcome
+pub(crate) fn written_outcome(written: Result<usize, Refusal>) -> Outcome
     ensures { Gives result (written_answer written) }
 {
     match written {
-        Written::Success(count) => counted(count),
-        Written::Refused(number) => refusal(number),
+        Ok(count) => counted(count),
+        Err(e) => refusal(e.number()),
     }
 }
 
 // What an evaluation answers: 1 or 0.
-pub(crate) fn evaluated_outcome(evaluated: Evaluated) -> Outcome
+pub(crate) fn evaluated_outcome(evaluated: Result<bool, Refusal>) -> Outcome
     ensures { Gives result (evaluated_answer evaluated) }
 {
     match evaluated {
-        Evaluated::Truth(says) => {
-            if says {
-                return counted(1);
-            }
-            counted(0)
-        }
-        Evaluated::Refused(number) => refusal(number),
+        Ok(says) => counted(usize::from(says)),
+        Err(e) => refusal(e.number()),
     }
 }
 

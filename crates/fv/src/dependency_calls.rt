@@ -7,7 +7,7 @@ ghost use Rattle.fv.specs.DependencyCalls.{evaluate_call, guids_bytes, guids_in,
 
 use crate::answer::{ANSWER_BYTES, evaluated_outcome, give, opcode_outcome, written_outcome};
 use crate::packed::guid_in;
-use dependency::{Validated, evaluate, read_opcode, validate, write_opcode};
+use dependency::{evaluate, read_opcode, validate, write_opcode};
 
 // The bytes of a table of installed firmware: 16 GUIDs, and 16 versions of 32 bits.
 const GUIDS_BYTES: usize = 256;
@@ -39,13 +39,13 @@ pub fn fv_write_opcode(opcode: u8, operand: &[u8], room: &mut [u8], answer: &mut
 }
 
 // Tests an expression up to its end, whatever firmware is installed. Refused with 301 to 305, the first in reading order, at one opcode the lowest.
+#[tactic(auto, unfolding(common::specs::Answers::number_of))]
 pub fn fv_validate_dependency(expression: &[u8]) -> u32
     ensures { called result [] ≡ validate_call expression.now }
 {
-    let validated = validate(expression);
-    match validated {
-        Validated::Valid => 0,
-        Validated::Refused(number) => number as u32,
+    match validate(expression) {
+        Ok(()) => 0,
+        Err(e) => u32::from(e.number()),
     }
 }
 
@@ -84,11 +84,8 @@ fn guids_in(s: &[u8]) -> [[u8; 16]; 16]
     ensures { result ≡ guids_in 16 s.now }
 {
     let mut rows = [[0u8; 16]; 16];
-    let mut i = 0;
-    while i < 16 {
-        let row = guid_in(&s[16 * i..]);
-        rows[i] = row;
-        i += 1;
+    for i in 0..16 {
+        rows[i] = guid_in(&s[16 * i..]);
     }
     rows
 }
@@ -108,10 +105,8 @@ fn words_in(s: &[u8]) -> [u32; 16]
     ensures { result ≡ words_at 16 s.now 0 }
 {
     let mut versions = [0u32; 16];
-    let mut i = 0;
-    while i < 16 {
+    for i in 0..16 {
         versions[i] = numbers::u32_at(s, 4 * i);
-        i += 1;
     }
     versions
 }

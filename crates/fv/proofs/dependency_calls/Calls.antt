@@ -14,12 +14,9 @@ use Rattle.common.proofs.Refusals.{no_row}
 use Rattle.volume.specs.Header.{words_at}
 use Rattle.dependency.specs.Evaluation.{evaluate_of}
 use Rattle.dependency.specs.Opcodes.{wrote, write_opcode}
-use Rattle.dependency.specs.Validation.{validated_answer, validate_of}
-use Rattle.dependency.specs.declared.validation.Validated.{Validated}
-use Rattle.dependency.specs.declared.validation.Validated.TheVariants as T
 use Rattle.fv.specs.Answer.{answer_bytes, answer_stored, few_answer}
 use Rattle.fv.specs.Called.{called}
-use Rattle.fv.specs.DependencyCalls.{guids_bytes, guids_in, versions_bytes, write_opcode_call, validate_call, evaluate_call}
+use Rattle.fv.specs.DependencyCalls.{guids_bytes, guids_in, versions_bytes, write_opcode_call, evaluate_call}
 use Rattle.fv.proofs.answer.Answers.{few, enough}
 
 -- ---- writing an opcode
@@ -33,17 +30,6 @@ module _ (code : ℕ) (operand room answer : List ℕ) where
       → (number ≡ number_of a) × (after ≡ answer_stored (values_of a) answer) → called number (room' ∷ after ∷ []) ≡ write_opcode_call code operand room answer
   unfolding write_opcode_call
   write_done long a number room' after is e = rw (enough (length answer) answer_bytes [] none long no_row, ← is, e.0, e.1)
-
--- ---- the test
-
-module _ (expression : List ℕ) (v : Validated) (is : validated_answer v ≡ validate_of expression) where
-  pub validate_done : v ≡ T.Valid → called 0 [] ≡ validate_call expression
-  unfolding number_of
-  validate_done e = rw (← is, e)
-
-  pub validate_refused : (n : ℕ) → v ≡ T.Refused n → called n [] ≡ validate_call expression
-  unfolding number_of
-  validate_refused n e = rw (← is, e)
 
 -- ---- the evaluation
 

@@ -11,7 +11,7 @@ use borrow.Author.Rules.{rules}
 use Rattle.fv.proofs.dependency_calls.words_in.Goals as goal
 
 pub loop-i-init : goal.loop-i-init
-loop-i-init c = (search rules, refl, refl)
+loop-i-init c = (refl, refl)
 
 pub loop-i-preserved : goal.loop-i-preserved
 loop-i-preserved c =
@@ -19,9 +19,8 @@ loop-i-preserved c =
     let s = c.args.s.now in
     let long = length-words_at 16 s 0 in
     let place : 0 + 4 * l.i ≡ 4 * l.i = omega arith in (
-      search rules,
-      simp length-set l.invariant.1,
-      fill_next (words_at 16 s 0) l.versions l.i _ (omega arith) (omega arith) (words_at_at 16 s 0 l.i (search rules) ∙ ap (le 4 s) place ∙ sym c.u32_at.ensures) l.invariant.2,
+      simp length-set l.invariant.0,
+      fill_next (words_at 16 s 0) l.versions l.i _ (omega arith) (omega arith) (words_at_at 16 s 0 l.i (search rules) ∙ ap (le 4 s) place ∙ sym c.u32_at.ensures) l.invariant.1,
     )
 
 pub returns : goal.returns
@@ -29,4 +28,4 @@ returns c =
     let l = c.loop-i in
     let s = c.args.s.now in
     let long = length-words_at 16 s 0 in
-    fill_done (words_at 16 s 0) l.versions l.i (omega arith) (omega arith) l.invariant.2
+    fill_done (words_at 16 s 0) l.versions l.i (omega arith) (omega arith) l.invariant.1
