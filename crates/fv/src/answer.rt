@@ -1,194 +1,178 @@
 // What a call answers, and the bytes that a caller lends for it.
-ghost use Rattle.std.specs.Prelude.{◌≡◌, ◌≤◌, length, [], ◌∷◌};
-ghost use Rattle.common.specs.Answers.{refused, success, short};
-ghost use Rattle.volume.specs.ExtendedEntry.{entry_answer};
+ghost use Rattle.std.specs.Prelude.{◌≡◌, ◌≤◌, length, Result, Ok, Err};
+ghost use Rattle.common.specs.Answers.{Answer, refused, number_of, values_of};
+ghost use Rattle.common.specs.Refusal.{number};
+ghost use Rattle.common.specs.declared.refusal.Refusal.{Refusal};
 ghost use Rattle.block_service.specs.Service.{moved_answer};
 ghost use Rattle.dependency.specs.Evaluation.{evaluated_answer};
-ghost use Rattle.dependency.specs.Opcodes.{read_answer, written_answer};
+ghost use Rattle.dependency.specs.Opcodes.{read_answer};
 ghost use Rattle.sections.specs.Append.{appended_answer};
 ghost use Rattle.sections.specs.Search.{found_answer};
-ghost use Rattle.fv.specs.Answer.{answer_bytes, entry_words, Gives, GivesList, list_outcome, outcome_stored, two_stored};
+ghost use Rattle.volume.specs.ExtendedEntry.{entry_answer};
+ghost use Rattle.fv.specs.Answer.{answer_bytes, answer_stored, entry_words, Gives, GivesList, last_count, two_stored};
 
 use block_service::Moved;
 use common::Refusal;
 use dependency::Read;
-use sections::append::Appended;
-use sections::search::Found;
+use sections::search::Part;
 use volume::ExtEntry;
 
 // The bytes of an answer: two numbers of 64 bits.
 pub(crate) const ANSWER_BYTES: usize = 16;
 
-// A call's number, whether it stores an answer, and the two numbers of that.
-#[derive(Clone, Copy)]
+// What a call returns where fewer bytes are lent than it needs.
+pub(crate) const TOO_FEW: u32 = Refusal::BufferTooSmall as u32;
+
+// What a call returns, 0 for success or 4 for short, and the two numbers that it stores beside that.
+#[derive(Clone, Copy, Debug, PartialEq, Eq)]
 pub(crate) struct Outcome {
     number: u32,
-    stored: bool,
     first: u64,
     second: u64,
 }
 
-// A refusal: nothing is stored.
-pub(crate) fn refusal(number: u16) -> Outcome
-    ensures { Gives result (refused number) }
-{
-    Outcome {
-        number: number as u32,
-        stored: false,
-        first: 0,
-        second: 0,
+impl Outcome {
+    // Success.
+    fn success(first: u64, second: u64) -> Outcome
+        ensures { result ≡ record { number = 0; first = first; second = second } }
+    {
+        Outcome {
+            number: 0,
+            first,
+            second,
+        }
+    }
+
+    // Stores the two numbers at the start of an answer's bytes, and gives the number. What lies behind stays.
+    fn store(self, answer: &mut [u8]) -> u32
+        requires { answer_bytes ≤ length answer.old }
+        ensures number { result ≡ self.number }
+        ensures stored { answer.new ≡ two_stored self.first self.second answer.old }
+    {
+        // They are put into an array first, so that the compiler makes two stores of it.
+        let mut s = [0u8; ANSWER_BYTES];
+        numbers::store(&mut s, 0, 8, self.first);
+        numbers::store(&mut s, 8, 8, self.second);
+        answer[..ANSWER_BYTES].copy_from_slice(&s);
+        self.number
     }
 }
 
-// Success with two values.
-pub(crate) fn succeeded(first: u64, second: u64) -> Outcome
-    ensures { Gives result (success (first ∷ second ∷ [])) }
+// A value that a call answers.
+pub(crate) trait Answered {
+    // The answer of a result; a refusal's is its number.
+    ghost answer: { Result Self Refusal → Answer };
+
+    ghost refusal: { (e : Refusal) → answer (Err e) ≡ refused (number e) };
+
+    fn outcome(self) -> Outcome
+        ensures { Gives result (answer (Ok self)) };
+}
+
+// Gives what a call answered: its number, with the value's two numbers stored at the start of the answer's bytes. A refusal stores nothing.
+pub(crate) fn give<T: Answered>(answered: Result<T, Refusal>, answer: &mut [u8]) -> u32
+    requires { answer_bytes ≤ length answer.old }
+    ensures number { result ≡ number_of (T.answer answered) }
+    ensures stored { answer.new ≡ answer_stored (values_of (T.answer answered)) answer.old }
 {
-    Outcome {
-        number: 0,
-        stored: true,
-        first,
-        second,
+    match answered {
+        Ok(value) => value.outcome().store(answer),
+        Err(refusal) => u32::from(refusal.number()),
     }
 }
 
-// Success with one value: the value and 0.
-pub(crate) fn counted(count: usize) -> Outcome
-    ensures { Gives result (success (count ∷ [])) }
-{
-    succeeded(count as u64, 0)
-}
+// A read or a write: the count and 0; short is document 01's answer 4.
+impl Answered for Moved {
+    ghost answer = { moved_answer };
 
-// Short, document 01's answer 4: the count and 0.
-pub(crate) fn cut_short(count: usize) -> Outcome
-    ensures { Gives result (short (count ∷ [])) }
-{
-    Outcome {
-        number: 4,
-        stored: true,
-        first: count as u64,
-        second: 0,
+    ghost refusal = { moved_refusal };
+
+    fn outcome(self) -> Outcome {
+        match self {
+            Moved::All(count) => Outcome::success(count as u64, 0),
+            Moved::Short(count) => Outcome {
+                number: 4,
+                first: count as u64,
+                second: 0,
+            },
+        }
     }
 }
 
-// What a read or a write answers.
-pub(crate) fn moved_outcome(moved: Moved) -> Outcome
-    ensures { Gives result (moved_answer moved) }
-{
-    match moved {
-        Moved::Success(count) => counted(count),
-        Moved::Short(count) => cut_short(count),
-        Moved::Refused(number) => refusal(number),
+// The part that a search found: its first byte and its end.
+impl Answered for Part {
+    ghost answer = { found_answer };
+
+    ghost refusal = { found_refusal };
+
+    fn outcome(self) -> Outcome {
+        Outcome::success(self.first as u64, self.end as u64)
     }
 }
 
-// What a list of writes answers: the last answer's number, and, also beside a refusal, how many writes succeeded and the last one's count.
-pub(crate) fn list_outcome(written: write_orders::Written) -> Outcome
-    ensures { GivesList result written.count (moved_answer written.last) }
-{
-    let count = written.count as u64;
-    let last = written.last;
-    match last {
-        Moved::Success(moved) => listed(0, count, moved as u64),
-        Moved::Short(moved) => listed(4, count, moved as u64),
-        Moved::Refused(number) => listed(number as u32, count, 0),
+// A count, as of the bytes used or written: the count and 0.
+impl Answered for usize {
+    ghost answer = { appended_answer };
+
+    ghost refusal = { appended_refusal };
+
+    fn outcome(self) -> Outcome {
+        Outcome::success(self as u64, 0)
     }
 }
 
-// A number with two values.
-fn listed(number: u32, first: u64, second: u64) -> Outcome
-    ensures { result ≡ list_outcome number first second }
+// An entry of an extended header: its first byte, and its size and type in one number.
+impl Answered for ExtEntry {
+    ghost answer = { λ entry. entry_words (entry_answer entry) };
+
+    ghost refusal = { entry_refusal };
+
+    fn outcome(self) -> Outcome {
+        Outcome::success(
+            self.first as u64,
+            u64::from(self.size) + 65_536 * u64::from(self.entry_type),
+        )
+    }
+}
+
+// An opcode that was read, and the place after its operand.
+impl Answered for Read {
+    ghost answer = { read_answer };
+
+    ghost refusal = { opcode_refusal };
+
+    fn outcome(self) -> Outcome {
+        Outcome::success(u64::from(u8::from(self.opcode)), self.after as u64)
+    }
+}
+
+// What an expression says: 1 or 0, and 0.
+impl Answered for bool {
+    ghost answer = { evaluated_answer };
+
+    ghost refusal = { evaluated_refusal };
+
+    fn outcome(self) -> Outcome {
+        Outcome::success(u64::from(self), 0)
+    }
+}
+
+// Gives what a list of writes came to: the last answer's number, and, also beside a refusal, how many writes succeeded and the last one's count.
+pub(crate) fn give_list(written: write_orders::Written, answer: &mut [u8]) -> u32
+    requires { answer_bytes ≤ length answer.old }
+    ensures number { result ≡ number_of (moved_answer written.last) }
+    ensures stored { answer.new ≡ two_stored written.count (last_count (moved_answer written.last)) answer.old }
 {
+    let first = written.count as u64;
+    let (number, second) = match written.last {
+        Ok(Moved::All(moved)) => (0, moved as u64),
+        Ok(Moved::Short(moved)) => (4, moved as u64),
+        Err(refusal) => (u32::from(refusal.number()), 0),
+    };
     Outcome {
         number,
-        stored: true,
         first,
         second,
     }
-}
-
-// What a search answers.
-pub(crate) fn found_outcome(found: Found) -> Outcome
-    ensures { Gives result (found_answer found) }
-{
-    match found {
-        Found::Part { first, end } => succeeded(first as u64, end as u64),
-        Found::Refused(number) => refusal(number),
-    }
-}
-
-// What appending answers.
-pub(crate) fn appended_outcome(appended: Appended) -> Outcome
-    ensures { Gives result (appended_answer appended) }
-{
-    match appended {
-        Appended::Used(count) => counted(count),
-        Appended::Refused(number) => refusal(number),
-    }
-}
-
-// What is answered for an entry of an extended header: its first byte, and its size and type in one number.
-pub(crate) fn entry_outcome(entry: ExtEntry) -> Outcome
-    ensures { Gives result (entry_words (entry_answer entry)) }
-{
-    match entry {
-        ExtEntry::Success {
-            first,
-            size,
-            entry_type,
-        } => succeeded(first as u64, size as u64 + 65_536 * (entry_type as u64)),
-        ExtEntry::Refused(number) => refusal(number),
-    }
-}
-
-// What is answered for an opcode that was read: its number, and the place after its operand.
-pub(crate) fn opcode_outcome(read: Result<Read, Refusal>) -> Outcome
-    ensures { Gives result (read_answer read) }
-{
-    match read {
-        Ok(Read { opcode, after }) => succeeded(u64::from(u8::from(opcode)), after as u64),
-        Err(e) => refusal(e.number()),
-    }
-}
-
-// What is answered for an opcode that was written: how many bytes were stored.
-pub(crate) fn written_outcome(written: Result<usize, Refusal>) -> Outcome
-    ensures { Gives result (written_answer written) }
-{
-    match written {
-        Ok(count) => counted(count),
-        Err(e) => refusal(e.number()),
-    }
-}
-
-// What an evaluation answers: 1 or 0.
-pub(crate) fn evaluated_outcome(evaluated: Result<bool, Refusal>) -> Outcome
-    ensures { Gives result (evaluated_answer evaluated) }
-{
-    match evaluated {
-        Ok(says) => counted(usize::from(says)),
-        Err(e) => refusal(e.number()),
-    }
-}
-
-// Stores what an outcome stores at the start of an answer's bytes, and gives its number. What lies behind stays.
-pub(crate) fn give(outcome: Outcome, answer: &mut [u8]) -> u32
-    requires { answer_bytes ≤ length answer.old }
-    ensures { (result ≡ outcome.number) × (answer.new ≡ outcome_stored outcome answer.old) }
-{
-    if outcome.stored {
-        store_two(outcome.first, outcome.second, answer);
-    }
-    outcome.number
-}
-
-// Stores two numbers. They are put into an array first, so that the compiler makes two stores of it.
-fn store_two(first: u64, second: u64, answer: &mut [u8])
-    requires { answer_bytes ≤ length answer.old }
-    ensures { answer.new ≡ two_stored first second answer.old }
-{
-    let mut s = [0u8; 16];
-    numbers::store(&mut s, 0, 8, first);
-    numbers::store(&mut s, 8, 8, second);
-    answer[..ANSWER_BYTES].copy_from_slice(&s);
+    .store(answer)
 }

@@ -5,8 +5,8 @@ ghost use Rattle.volume.specs.Header.{words_at};
 ghost use Rattle.fv.specs.Called.{called};
 ghost use Rattle.fv.specs.DependencyCalls.{evaluate_call, guids_bytes, guids_in, read_opcode_call, validate_call, versions_bytes, write_opcode_call};
 
-use crate::answer::{ANSWER_BYTES, evaluated_outcome, give, opcode_outcome, written_outcome};
-use crate::packed::guid_in;
+use crate::answer::{ANSWER_BYTES, TOO_FEW, give};
+use crate::packed::{guid_in, words_in};
 use dependency::{evaluate, read_opcode, validate, write_opcode};
 
 // The bytes of a table of installed firmware: 16 GUIDs, and 16 versions of 32 bits.
@@ -20,10 +20,9 @@ pub fn fv_read_opcode(opcodes: &[u8], answer: &mut [u8]) -> u32
     ensures { called result (answer.new ∷ []) ≡ read_opcode_call opcodes.now answer.old }
 {
     if answer.len() < ANSWER_BYTES {
-        return 5;
+        return TOO_FEW;
     }
-    let read = read_opcode(opcodes);
-    give(opcode_outcome(read), answer)
+    give(read_opcode(opcodes), answer)
 }
 
 // Stores an opcode and its operand at the start of a room, and how many bytes these are, and 0. What follows the operand is dropped, and the rest of the room stays.
@@ -32,10 +31,10 @@ pub fn fv_write_opcode(opcode: u8, operand: &[u8], room: &mut [u8], answer: &mut
     ensures { called result (room.new ∷ answer.new ∷ []) ≡ write_opcode_call opcode operand.now room.old answer.old }
 {
     if answer.len() < ANSWER_BYTES {
-        return 5;
+        return TOO_FEW;
     }
     let written = write_opcode(opcode, operand, room);
-    give(written_outcome(written), answer)
+    give(written, answer)
 }
 
 // Tests an expression up to its end, whatever firmware is installed. Refused with 301 to 305, the first in reading order, at one opcode the lowest.
@@ -45,7 +44,7 @@ pub fn fv_validate_dependency(expression: &[u8]) -> u32
 {
     match validate(expression) {
         Ok(()) => 0,
-        Err(e) => u32::from(e.number()),
+        Err(refusal) => u32::from(refusal.number()),
     }
 }
 
@@ -60,22 +59,16 @@ pub fn fv_evaluate_dependency(
 ) -> u32
     ensures { called result (answer.new ∷ []) ≡ evaluate_call expression.now guids.now versions.now used answer.old }
 {
-    if guids.len() < GUIDS_BYTES {
-        return 5;
-    }
-    if versions.len() < VERSIONS_BYTES {
-        return 5;
-    }
-    if answer.len() < ANSWER_BYTES {
-        return 5;
+    if guids.len() < GUIDS_BYTES || versions.len() < VERSIONS_BYTES || answer.len() < ANSWER_BYTES {
+        return TOO_FEW;
     }
     let evaluated = evaluate(
         expression,
         guids_in(guids),
-        versions_in(versions),
+        words_in(versions, 0),
         used as usize,
     );
-    give(evaluated_outcome(evaluated), answer)
+    give(evaluated, answer)
 }
 
 // The GUIDs that bytes hold, sixteen bytes to a row.
@@ -88,25 +81,4 @@ fn guids_in(s: &[u8]) -> [[u8; 16]; 16]
         rows[i] = guid_in(&s[16 * i..]);
     }
     rows
-}
-
-// The versions that bytes hold, four to a version. They are copied into an array first, whose length is known where each is loaded.
-fn versions_in(s: &[u8]) -> [u32; 16]
-    requires { versions_bytes ≤ length s.now }
-    ensures { result ≡ words_at 16 s.now 0 }
-{
-    let mut own = [0u8; 64];
-    own.copy_from_slice(&s[..VERSIONS_BYTES]);
-    words_in(&own)
-}
-
-// The sixteen words of 32 bits that bytes begin with.
-fn words_in(s: &[u8]) -> [u32; 16]
-    ensures { result ≡ words_at 16 s.now 0 }
-{
-    let mut versions = [0u32; 16];
-    for i in 0..16 {
-        versions[i] = numbers::u32_at(s, 4 * i);
-    }
-    versions
 }

@@ -4,8 +4,9 @@ ghost use Rattle.numbers.specs.LittleEndian.{le_bytes};
 ghost use Rattle.fv.specs.Called.{called};
 ghost use Rattle.fv.specs.JobCalls.{accept_call, carry_call, job_bytes};
 
-use crate::packed::{STATE_BYTES, unpack};
-use block_service::{Accepted, Progress, accept_byte_list, carry_byte_list};
+use crate::answer::TOO_FEW;
+use crate::packed::unpack;
+use block_service::{ByteWords, Progress, accept_erase, carry_erase};
 
 // The bytes of a job: a number of 64 bits.
 const JOB_BYTES: usize = 8;
@@ -15,19 +16,18 @@ const JOB_BYTES: usize = 8;
 pub fn fv_accept_erase(state: &[u8], volume: &[u8], list: &[u8], job: &mut [u8]) -> u32
     ensures { called result (job.new ∷ []) ≡ accept_call state.now volume.now list.now job.old }
 {
-    if state.len() < STATE_BYTES {
-        return 5;
-    }
+    let Some(state) = state.first_chunk() else {
+        return TOO_FEW;
+    };
     if job.len() < JOB_BYTES {
-        return 5;
+        return TOO_FEW;
     }
-    let accepted = accept_byte_list(unpack(state), volume, list);
-    match accepted {
-        Accepted::Job(answered) => {
+    match accept_erase(&unpack(state), volume, ByteWords(list)) {
+        Ok(answered) => {
             store_job(job, answered);
             0
         }
-        Accepted::Refused(number) => number as u32,
+        Err(refusal) => u32::from(refusal.number()),
     }
 }
 
@@ -43,21 +43,20 @@ pub fn fv_carry_erase(
 ) -> u32
     ensures { called result (volume.new ∷ job.new ∷ []) ≡ carry_call state.now volume.old list.now job.old stores }
 {
-    if state.len() < STATE_BYTES {
-        return 5;
-    }
+    let Some(state) = state.first_chunk() else {
+        return TOO_FEW;
+    };
     if job.len() < JOB_BYTES {
-        return 5;
+        return TOO_FEW;
     }
     let last = numbers::u64_at(job, 0);
-    let progress = carry_byte_list(unpack(state), volume, list, last, stores);
-    match progress {
-        Progress::Finished => 0,
-        Progress::Job(answered) => {
+    match carry_erase(&unpack(state), volume, ByteWords(list), last, stores) {
+        Ok(Progress::Finished) => 0,
+        Ok(Progress::Job(answered)) => {
             store_job(job, answered);
             4
         }
-        Progress::Refused(number) => number as u32,
+        Err(refusal) => u32::from(refusal.number()),
     }
 }
 

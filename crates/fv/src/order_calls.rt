@@ -3,9 +3,9 @@ ghost use Rattle.std.specs.Prelude.{[], ◌∷◌, ◌≡◌};
 ghost use Rattle.fv.specs.Called.{called};
 ghost use Rattle.fv.specs.OrderCalls.{write_list_call};
 
-use crate::answer::{ANSWER_BYTES, give, list_outcome};
-use crate::packed::{STATE_BYTES, unpack};
-use write_orders::write_order_bytes;
+use crate::answer::{ANSWER_BYTES, TOO_FEW, give_list};
+use crate::packed::unpack;
+use write_orders::{ByteOrders, write_orders};
 
 // Carries out the orders one after the other, up to the first answer that is not success; they are lent as bytes, 32 to an order: four numbers of 64 bits (block, offset, first
 // byte and length of the stretch of the source). Up to 31 bytes behind the last whole order are ignored. Returns the last answer's number, and stores how many writes succeeded and
@@ -20,12 +20,12 @@ pub fn fv_write_list(
     ensures { called result (volume.new ∷ answer.new ∷ [])
         ≡ write_list_call state.now volume.old orders.now source.now answer.old }
 {
-    if state.len() < STATE_BYTES {
-        return 5;
-    }
+    let Some(state) = state.first_chunk() else {
+        return TOO_FEW;
+    };
     if answer.len() < ANSWER_BYTES {
-        return 5;
+        return TOO_FEW;
     }
-    let written = write_order_bytes(unpack(state), volume, orders, source);
-    give(list_outcome(written), answer)
+    let written = write_orders(&unpack(state), volume, ByteOrders(orders), source);
+    give_list(written, answer)
 }

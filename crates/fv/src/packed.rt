@@ -1,5 +1,5 @@
 // A state packed into bytes, and unpacked.
-ghost use Rattle.std.specs.Prelude.{List, ◌++◌, ◌≡◌, ◌+◌, ◌≤◌, length, take, drop};
+ghost use Rattle.std.specs.Prelude.{◌++◌, ◌≡◌, ◌+◌, ◌*◌, ◌≤◌, ◌<◌, ◌^◌, length, take, drop};
 ghost use Rattle.std.proofs.lemmas.List.Edits.{sets};
 ghost use Rattle.numbers.specs.LittleEndian.{le_bytes};
 ghost use Rattle.volume.specs.Header.{words_at};
@@ -26,19 +26,8 @@ const ENTRIES: usize = 44;
 
 const BLOCK_MAP: usize = 48;
 
-// The state that packed bytes hold, lawful or not. They are copied into an array first, whose length is known where each field is loaded.
-pub(crate) fn unpack(state: &[u8]) -> State
-    requires { state_bytes ≤ length state.now }
-    ensures { result ≡ unpacked state.now }
-{
-    let mut s = [0u8; 304];
-    s.copy_from_slice(&state[..STATE_BYTES]);
-    state_in(&s)
-}
-
-// The state that these bytes hold.
-fn state_in(s: &[u8]) -> State
-    requires { 16 ≤ length s.now }
+// The state that packed bytes hold, lawful or not.
+pub(crate) fn unpack(s: &[u8; STATE_BYTES]) -> State
     ensures { result ≡ unpacked s.now }
 {
     State {
@@ -47,9 +36,9 @@ fn state_in(s: &[u8]) -> State
         base: numbers::u64_at(s, BASE),
         attributes: numbers::u32_at(s, ATTRIBUTES),
         edition: numbers::u32_at(s, EDITION),
-        protected: numbers::wide(numbers::u32_at(s, PROTECTED)),
+        protected: u64::from(numbers::u32_at(s, PROTECTED)),
         entries: numbers::u32_at(s, ENTRIES) as usize,
-        map: map_in(s),
+        map: words_in(s, BLOCK_MAP),
     }
 }
 
@@ -58,46 +47,41 @@ pub(crate) fn guid_in(s: &[u8]) -> [u8; 16]
     requires { 16 ≤ length s.now }
     ensures { result ≡ take 16 s.now }
 {
-    let mut guid = [0u8; 16];
+    let mut guid = [0; 16];
     guid.copy_from_slice(&s[..16]);
     guid
 }
 
-// The map's 64 words, from byte 48 on.
-fn map_in(s: &[u8]) -> [u32; 64]
-    ensures { result ≡ words_at 64 s.now packed_map_start }
+// The N words of 32 bits from a place on.
+pub(crate) fn words_in<const N: usize>(s: &[u8], at: usize) -> [u32; N]
+    requires { at + 4 * N < 2 ^ 63 }
+    ensures { result ≡ words_at N s.now at }
 {
-    let mut map = [0u32; 64];
-    let mut i = 0;
-    while i < 64 {
-        map[i] = numbers::u32_at(s, BLOCK_MAP + 4 * i);
-        i += 1;
+    let mut words = [0; N];
+    for i in 0..N {
+        words[i] = numbers::u32_at(s, at + 4 * i);
     }
-    map
+    words
 }
 
 // Packs a state into the start of a room; the rest of the room stays.
-pub(crate) fn pack(st: State, room: &mut [u8])
+pub(crate) fn pack(state: &State, room: &mut [u8])
     requires { state_bytes ≤ length room.old }
-    ensures { room.new ≡ packed st ++ drop state_bytes room.old }
+    ensures { room.new ≡ packed state.now ++ drop state_bytes room.old }
 {
-    let mut s = [0u8; 304];
-    let guid = st.guid;
-    numbers::store_bytes(&mut s, 0, &guid);
-    store_longs(st.length, st.base, &mut s);
-    store_pair(ATTRIBUTES, st.attributes as u64, st.edition as u64, &mut s);
-    store_pair(PROTECTED, st.protected, st.entries as u64, &mut s);
-    let map = st.map;
-    store_map(&map, &mut s);
+    let mut s = [0u8; STATE_BYTES];
+    numbers::store_bytes(&mut s, 0, &state.guid);
+    numbers::store(&mut s, LENGTH, 8, state.length);
+    numbers::store(&mut s, BASE, 8, state.base);
+    store_pair(
+        ATTRIBUTES,
+        u64::from(state.attributes),
+        u64::from(state.edition),
+        &mut s,
+    );
+    store_pair(PROTECTED, state.protected, state.entries as u64, &mut s);
+    store_map(&state.map, &mut s);
     room[..STATE_BYTES].copy_from_slice(&s);
-}
-
-// Stores the two fields of 64 bits.
-fn store_longs(length: u64, base: u64, s: &mut [u8])
-    ensures { s.new ≡ sets (sets s.old 16 (le_bytes 8 length)) 24 (le_bytes 8 base) }
-{
-    numbers::store(s, LENGTH, 8, length);
-    numbers::store(s, BASE, 8, base);
 }
 
 // Stores two fields of 32 bits that stand side by side.
@@ -114,9 +98,7 @@ fn store_map(map: &[u32], s: &mut [u8])
     requires { length map.now ≡ 64 }
     ensures { s.new ≡ sets s.old packed_map_start (words_bytes map.now) }
 {
-    let mut i = 0;
-    while i < map.len() {
-        numbers::store(s, BLOCK_MAP + 4 * i, 4, numbers::wide(map[i]));
-        i += 1;
+    for (i, word) in map.iter().enumerate() {
+        numbers::store(s, BLOCK_MAP + 4 * i, 4, u64::from(*word));
     }
 }

@@ -3,7 +3,7 @@ ghost use Rattle.std.specs.Prelude.{[], ◌∷◌, ◌≡◌};
 ghost use Rattle.fv.specs.Called.{called};
 ghost use Rattle.fv.specs.SectionCalls.{append_call, mode_of, search_call, search_first_call};
 
-use crate::answer::{ANSWER_BYTES, appended_outcome, found_outcome, give};
+use crate::answer::{ANSWER_BYTES, TOO_FEW, give};
 use sections::append::append;
 use sections::header::Mode;
 use sections::search::{search, search_first};
@@ -20,10 +20,10 @@ pub fn fv_search(
     ensures { called result (answer.new ∷ []) ≡ search_call mode stream.now section_type instance answer.old }
 {
     if answer.len() < ANSWER_BYTES {
-        return 5;
+        return TOO_FEW;
     }
     let found = search(mode_of(mode), stream, section_type, instance);
-    give(found_outcome(found), answer)
+    give(found, answer)
 }
 
 // The first section of a type, without a look at what comes after its own header: stores first byte and end of its part of the stream. Refused with 5 (fewer than 16 bytes of
@@ -32,10 +32,10 @@ pub fn fv_search_first(mode: u32, stream: &[u8], section_type: u8, answer: &mut 
     ensures { called result (answer.new ∷ []) ≡ search_first_call mode stream.now section_type answer.old }
 {
     if answer.len() < ANSWER_BYTES {
-        return 5;
+        return TOO_FEW;
     }
     let found = search_first(mode_of(mode), stream, section_type);
-    give(found_outcome(found), answer)
+    give(found, answer)
 }
 
 // Appends a leaf after the used bytes of a buffer, and stores the new used count and 0. Refused with 5 (fewer than 16 bytes of answer), 2, 202, 206, 5 (the buffer).
@@ -50,10 +50,10 @@ pub fn fv_append(
     ensures { called result (buffer.new ∷ answer.new ∷ []) ≡ append_call mode buffer.old used section_type body.now answer.old }
 {
     if answer.len() < ANSWER_BYTES {
-        return 5;
+        return TOO_FEW;
     }
     let appended = append(mode_of(mode), buffer, used as usize, section_type, body);
-    give(appended_outcome(appended), answer)
+    give(appended, answer)
 }
 
 // The mode that a number stands for.

@@ -3,10 +3,10 @@ ghost use Rattle.std.specs.Prelude.{[], ◌∷◌, ◌≡◌};
 ghost use Rattle.fv.specs.Called.{called};
 ghost use Rattle.fv.specs.VolumeCalls.{open_call, read_call, write_call, erase_call, entry_call};
 
-use crate::answer::{ANSWER_BYTES, entry_outcome, give, moved_outcome};
+use crate::answer::{ANSWER_BYTES, TOO_FEW, give};
 use crate::packed::{STATE_BYTES, pack, unpack};
-use block_service::{Erased, erase_byte_list, read, write};
-use volume::{Opening, ext_entry, open_volume};
+use block_service::{ByteWords, erase_blocks, read, write};
+use volume::{ext_entry, open_volume};
 
 // Opens a volume at a base address and packs its state into the first 304 bytes lent for it. Refused with 5 (fewer are lent), then opening's numbers, 101 to 110
 // and 112.
@@ -14,15 +14,15 @@ pub fn fv_open(state: &mut [u8], volume: &[u8], base: u64) -> u32
     ensures { called result (state.new ∷ []) ≡ open_call state.old volume.now base }
 {
     if state.len() < STATE_BYTES {
-        return 5;
+        return TOO_FEW;
     }
-    let opened = open_volume(volume, base);
-    let answer = opened.answer;
-    if let Opening::Refused(number) = answer {
-        return number as u32;
+    match open_volume(volume, base) {
+        Ok(opened) => {
+            pack(&opened, state);
+            0
+        }
+        Err(refusal) => u32::from(refusal.number()),
     }
-    pack(opened.state, state);
-    0
 }
 
 // Reads from an offset of a block into the start of the buffer, and stores the count and 0. Refused with 5 (fewer than 304 bytes of state or 16 of answer), 111 (they
@@ -37,14 +37,14 @@ pub fn fv_read(
 ) -> u32
     ensures { called result (buffer.new ∷ answer.new ∷ []) ≡ read_call state.now volume.now block offset buffer.old answer.old }
 {
-    if state.len() < STATE_BYTES {
-        return 5;
-    }
+    let Some(state) = state.first_chunk() else {
+        return TOO_FEW;
+    };
     if answer.len() < ANSWER_BYTES {
-        return 5;
+        return TOO_FEW;
     }
-    let moved = read(unpack(state), volume, block, offset as usize, buffer);
-    give(moved_outcome(moved), answer)
+    let moved = read(&unpack(state), volume, block, offset as usize, buffer);
+    give(moved, answer)
 }
 
 // Writes the new bytes from an offset of a block on, and stores the count and 0. Refused with 5 (fewer than 304 bytes of state or 16 of answer), 111 (they hold no lawful
@@ -59,14 +59,14 @@ pub fn fv_write(
 ) -> u32
     ensures { called result (volume.new ∷ answer.new ∷ []) ≡ write_call state.now volume.old block offset new.now answer.old }
 {
-    if state.len() < STATE_BYTES {
-        return 5;
-    }
+    let Some(state) = state.first_chunk() else {
+        return TOO_FEW;
+    };
     if answer.len() < ANSWER_BYTES {
-        return 5;
+        return TOO_FEW;
     }
-    let moved = write(unpack(state), volume, block, offset as usize, new);
-    give(moved_outcome(moved), answer)
+    let moved = write(&unpack(state), volume, block, offset as usize, new);
+    give(moved, answer)
 }
 
 // Erases the blocks that a list names, the list lent as bytes, eight to a word; up to seven bytes behind the last word are ignored. Refused with 5 (fewer than 304
@@ -74,13 +74,12 @@ pub fn fv_write(
 pub fn fv_erase(state: &[u8], volume: &mut [u8], list: &[u8]) -> u32
     ensures { called result (volume.new ∷ []) ≡ erase_call state.now volume.old list.now }
 {
-    if state.len() < STATE_BYTES {
-        return 5;
-    }
-    let erased = erase_byte_list(unpack(state), volume, list);
-    match erased {
-        Erased::Success => 0,
-        Erased::Refused(number) => number as u32,
+    let Some(state) = state.first_chunk() else {
+        return TOO_FEW;
+    };
+    match erase_blocks(&unpack(state), volume, ByteWords(list)) {
+        Ok(()) => 0,
+        Err(refusal) => u32::from(refusal.number()),
     }
 }
 
@@ -90,8 +89,7 @@ pub fn fv_ext_entry(volume: &[u8], number: u64, answer: &mut [u8]) -> u32
     ensures { called result (answer.new ∷ []) ≡ entry_call volume.now number answer.old }
 {
     if answer.len() < ANSWER_BYTES {
-        return 5;
+        return TOO_FEW;
     }
-    let entry = ext_entry(volume, number);
-    give(entry_outcome(entry), answer)
+    give(ext_entry(volume, number), answer)
 }
