@@ -2,7 +2,11 @@
 -- reader's buffer. A call is decided from the state, the length of the lent volume and its arguments alone; only the effect that was
 -- decided on touches bytes.
 use Rattle.std.specs.Prelude.{ℕ, ◌+◌, Bool, not, cond, List, [], ◌∷◌, ◌++◌, eqb, leb, ltb, length, take, drop}
+use Rattle.std.specs.Prelude as std
+use Rattle.std.specs.Prelude.{Ok, Err}
 use Rattle.std.proofs.Math.Option.{Option, none, some}
+use Rattle.common.specs.Refusal.{number}
+use Rattle.common.specs.declared.refusal.Refusal.{Refusal}
 use Rattle.common.specs.Answers.{Answer, refused, success, short}
 use Rattle.common.specs.Lists.{edit}
 use Rattle.common.specs.Refusals.{Row, row, first_refusal, unless_refused}
@@ -20,11 +24,9 @@ use Rattle.block_service.specs.declared.service.Settings
 use Rattle.block_service.specs.declared.service.Address
 use Rattle.block_service.specs.declared.service.BlockSize
 use Rattle.block_service.specs.declared.service.Moved
-use Rattle.block_service.specs.declared.service.Erased
 use Rattle.block_service.specs.declared.service.Protection
 use Rattle.block_service.specs.declared.service.Reach
-use Rattle.block_service.specs.declared.service.Accepted
-use Rattle.block_service.specs.declared.service.Progress
+use Rattle.block_service.specs.declared.jobs.Progress
 
 -- the answer that each case of the calls' enums stands for
 unfoldable pub settings_answer : Settings.Settings → Answer
@@ -44,24 +46,24 @@ moved_answer (Moved.TheVariants.Success n) = success (n ∷ [])
 moved_answer (Moved.TheVariants.Short n) = short (n ∷ [])
 moved_answer (Moved.TheVariants.Refused n) = refused n
 
-unfoldable pub erased_answer : Erased.Erased → Answer
-erased_answer Erased.TheVariants.Success = success []
-erased_answer (Erased.TheVariants.Refused n) = refused n
+unfoldable pub erased_answer : std.Result Unit Refusal → Answer
+erased_answer (Ok u) = success []
+erased_answer (Err e) = refused (number e)
 
 unfoldable pub protection_answer : Protection.Protection → Answer
 protection_answer Protection.TheVariants.Success = success []
 protection_answer (Protection.TheVariants.Refused n) = refused n
 
 -- 02, g: acceptance "answers a job"
-unfoldable pub accepted_answer : Accepted.Accepted → Answer
-accepted_answer (Accepted.TheVariants.Job job) = success (job ∷ [])
-accepted_answer (Accepted.TheVariants.Refused n) = refused n
+unfoldable pub accepted_answer : std.Result ℕ Refusal → Answer
+accepted_answer (Ok job) = success (job ∷ [])
+accepted_answer (Err e) = refused (number e)
 
 -- 02, g: carrying on "answers finished exactly when nothing is left then, otherwise the job as it now stands": success, or short with the job
-unfoldable pub progress_answer : Progress.Progress → Answer
-progress_answer Progress.TheVariants.Finished = success []
-progress_answer (Progress.TheVariants.Job job) = short (job ∷ [])
-progress_answer (Progress.TheVariants.Refused n) = refused n
+unfoldable pub progress_answer : std.Result Progress.Progress Refusal → Answer
+progress_answer (Ok Progress.TheVariants.Finished) = success []
+progress_answer (Ok (Progress.TheVariants.Job job)) = short (job ∷ [])
+progress_answer (Err e) = refused (number e)
 
 -- the ten calls with their arguments: a read comes with its buffer, a write with its data, an erase with its list. `protect_blocks` sets the first
 -- protected block (document 02, j: the mark). Document 02, g: `accept_erase` accepts an erase list, `carry_erase list job n` carries a job of that list on by n stores
