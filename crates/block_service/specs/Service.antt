@@ -20,9 +20,7 @@ use Rattle.settings.specs.Settings.{setting_refusals}
 use Rattle.block_service.specs.declared.check.Check
 use Rattle.block_service.specs.declared.service.BlockSize.{BlockSize}
 use Rattle.block_service.specs.declared.service.Moved
-use Rattle.block_service.specs.declared.service.Erased
-use Rattle.block_service.specs.declared.service.Accepted
-use Rattle.block_service.specs.declared.service.Progress
+use Rattle.block_service.specs.declared.jobs.Progress
 
 -- the answer that each case of the calls' results stands for
 unfoldable pub settings_answer : Outcome ℕ Refusal → Answer
@@ -42,24 +40,24 @@ moved_answer (Ok (Moved.TheVariants.All n)) = success (n ∷ [])
 moved_answer (Ok (Moved.TheVariants.Short n)) = short (n ∷ [])
 moved_answer (Err e) = refused (number e)
 
-unfoldable pub erased_answer : Erased.Erased → Answer
-erased_answer Erased.TheVariants.Success = success []
-erased_answer (Erased.TheVariants.Refused n) = refused n
+unfoldable pub erased_answer : Outcome Unit Refusal → Answer
+erased_answer (Ok done) = success []
+erased_answer (Err e) = refused (number e)
 
-unfoldable pub protection_answer : Outcome (Unit {0}) Refusal → Answer
-protection_answer (Ok set) = success []
+unfoldable pub protection_answer : Outcome Unit Refusal → Answer
+protection_answer (Ok done) = success []
 protection_answer (Err e) = refused (number e)
 
 -- 02, g: acceptance "answers a job"
-unfoldable pub accepted_answer : Accepted.Accepted → Answer
-accepted_answer (Accepted.TheVariants.Job job) = success (job ∷ [])
-accepted_answer (Accepted.TheVariants.Refused n) = refused n
+unfoldable pub accepted_answer : Outcome ℕ Refusal → Answer
+accepted_answer (Ok job) = success (job ∷ [])
+accepted_answer (Err e) = refused (number e)
 
 -- 02, g: carrying on "answers finished exactly when nothing is left then, otherwise the job as it now stands": success, or short with the job
-unfoldable pub progress_answer : Progress.Progress → Answer
-progress_answer Progress.TheVariants.Finished = success []
-progress_answer (Progress.TheVariants.Job job) = short (job ∷ [])
-progress_answer (Progress.TheVariants.Refused n) = refused n
+unfoldable pub progress_answer : Outcome Progress.Progress Refusal → Answer
+progress_answer (Ok Progress.TheVariants.Finished) = success []
+progress_answer (Ok (Progress.TheVariants.Job job)) = short (job ∷ [])
+progress_answer (Err e) = refused (number e)
 
 -- the ten calls with their arguments: a read comes with its buffer, a write with its data, an erase with its list. `protect_blocks` sets the first
 -- protected block (document 02, j: the mark). Document 02, g: `accept_erase` accepts an erase list, `carry_erase list job n` carries a job of that list on by n stores
