@@ -34,6 +34,7 @@ pub struct BlockPlace {
 // The place of a block in a map of a volume of which so many bytes are lent: the first entry that holds it settles it. Refused with 5
 // where the entries up to the block's, or all where none holds it, have more bytes than are lent, and with 2 where none holds it. No
 // sum passes the lent bytes.
+#[tactic(auto, using(crate::proofs::blocks::Runs::turns), unfolding(crate::specs::Blocks::place, common::specs::Refusals::first_refusal))]
 pub(crate) fn find_place(words: &[u32], lent: usize, block: u64) -> Result<BlockPlace, Refusal>
     ensures refused { refusal_of result ≡ first_refusal (place_refusals words.now block lent) }
     ensures found { IfOk result (λ found. place_of found ≡ place words.now block) }
@@ -97,6 +98,7 @@ pub(crate) fn find_block(words: &[u32], block: u64) -> Place
 
 // The number of blocks of this length with which the entries after an entry begin: those of the entries before the first
 // of another length.
+#[tactic(auto, using(crate::proofs::blocks::Runs::equal_turn, crate::proofs::blocks::Runs::equal_stops, crate::proofs::blocks::Runs::equal_done, crate::proofs::blocks::Runs::equal_within))]
 pub(crate) fn equal_blocks(words: &[u32], entry: usize, len: usize) -> usize
     requires in_bounds { 2 * entry + 1 < length words.now }
     requires words_bound { blocks words.now ≤ max_blocks }
@@ -114,6 +116,7 @@ pub(crate) fn equal_blocks(words: &[u32], entry: usize, len: usize) -> usize
 
 // The end of a run of blocks that starts at byte `start` in an entry: `left` blocks of the entry are left,
 // and the run goes on through the entries after it.
+#[tactic(auto, using(crate::proofs::blocks::Runs::ends))]
 pub(crate) fn run_end(words: &[u32], entry: usize, start: usize, left: usize, count: usize) -> usize
     requires in_bounds { 2 * entry + 1 < length words.now }
     requires count_bound { count ≤ left + blocks (drop (2 * (entry + 1)) words.now) }

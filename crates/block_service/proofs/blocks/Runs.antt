@@ -367,6 +367,61 @@ blocks_split w (suc i) = let z : 2 * suc i ≡ suc (suc (2 * i)) = omega arith i
 pub equal_within : (w : List ℕ) (i len : ℕ) → equal_blocks (drop (2 * i) w) len ≤ blocks w
 equal_within w i len = omega (arith, equal_le (drop (2 * i) w) len, blocks_split w i)
 
+-- the turns of the code that searches, at an entry: it passes the lent bytes, it holds the block, or the search goes on; and no entry is left
+module _ (w : List ℕ) (i b : ℕ) where
+  pub turn_past : (n : ℕ) → 2 * i + 1 < length w → n < get_or w (2 * i) 0 * get_or w (2 * i + 1) 0 → outgrows (drop (2 * i) w) b n ≡ true
+  turn_past n h p = outgrows_past w i _ _ h refl refl b n p
+
+  pub turn_in : (n : ℕ) → 2 * i + 1 < length w → get_or w (2 * i) 0 * get_or w (2 * i + 1) 0 ≤ n → b < get_or w (2 * i) 0 → outgrows (drop (2 * i) w) b n ≡ false
+  turn_in n h p q = outgrows_hit w i _ _ h refl refl b n p q
+
+  pub turn_on : (n m k : ℕ) → 2 * i + 1 < length w → get_or w (2 * i) 0 * get_or w (2 * i + 1) 0 ≤ n → get_or w (2 * i) 0 ≤ b
+      → m ≡ n - get_or w (2 * i) 0 * get_or w (2 * i + 1) 0 → k ≡ b - get_or w (2 * i) 0 → outgrows (drop (2 * (i + 1)) w) k m ≡ outgrows (drop (2 * i) w) b n
+  turn_on n m k h p q em ek = rw (em, ek) (outgrows_next w i _ _ h refl refl b n p q)
+
+  pub turn_out : (n : ℕ) → length w ≤ 2 * i + 1 → outgrows (drop (2 * i) w) b n ≡ false
+  turn_out n h = outgrows_end w i b n h
+
+  pub turn_there : 2 * i + 1 < length w → b < get_or w (2 * i) 0 → leb (blocks (drop (2 * i) w)) b ≡ false
+  turn_there h q = blocks_hit w i _ _ h refl refl b q
+
+  pub turn_further : (k : ℕ) → 2 * i + 1 < length w → get_or w (2 * i) 0 ≤ b → k ≡ b - get_or w (2 * i) 0 → leb (blocks (drop (2 * (i + 1)) w)) k ≡ leb (blocks (drop (2 * i) w)) b
+  turn_further k h q ek = rw ek (blocks_next w i _ _ h refl refl b q)
+
+  pub turn_nowhere : length w ≤ 2 * i + 1 → leb (blocks (drop (2 * i) w)) b ≡ true
+  turn_nowhere h = le-leb _ _ (omega (arith, count_end w i h))
+
+  pub turn_hit : (s : ℕ) → 2 * i + 1 < length w → b < get_or w (2 * i) 0
+      → At i (s + b * get_or w (2 * i + 1) 0) (get_or w (2 * i + 1) 0) (get_or w (2 * i) 0 - b) ≡ place_from (drop (2 * i) w) i s b
+  turn_hit s h q = find_hit w i _ _ h refl refl s b q
+
+  pub turn_next : (s t k : ℕ) → 2 * i + 1 < length w → get_or w (2 * i) 0 ≤ b → t ≡ s + get_or w (2 * i) 0 * get_or w (2 * i + 1) 0 → k ≡ b - get_or w (2 * i) 0
+      → place_from (drop (2 * (i + 1)) w) (i + 1) t k ≡ place_from (drop (2 * i) w) i s b
+  turn_next s t k h q et ek = rw (et, ek) (find_next w i _ _ h refl refl s b q)
+
+pub ruleset turns = (turn_past, turn_in, turn_on, turn_out, turn_there, turn_further, turn_nowhere, turn_hit, turn_next)
+
+-- the turns of the code that looks for a run's end
+pub end_next : (w : List ℕ) (i b k : ℕ) → 2 * i + 1 < length w → k ≡ min b (get_or w (2 * i) 0)
+    → first_byte (drop (2 * i) w) b ≡ k * get_or w (2 * i + 1) 0 + first_byte (drop (2 * (i + 1)) w) (b - k)
+end_next w i b k h e = first_next w i _ _ h refl refl b k e
+
+pub end_here : (m : List ℕ) (b : ℕ) → b ≡ 0 → first_byte m b ≡ 0
+end_here m b e = rw (e, first_byte_zero m)
+
+pub ruleset ends = (walk_first, end_next, end_here, first_end)
+
+-- the turns of the code that counts them: an entry of the length, one of another, and no entry
+pub equal_turn : (w : List ℕ) (i len : ℕ) → 2 * i + 1 < length w → get_or w (2 * i + 1) 0 ≡ len
+    → equal_blocks (drop (2 * i) w) len ≡ get_or w (2 * i) 0 + equal_blocks (drop (2 * (i + 1)) w) len
+equal_turn w i len h e = equal_on w i _ _ h refl refl len e
+
+pub equal_stops : (w : List ℕ) (i len : ℕ) → 2 * i + 1 < length w → (get_or w (2 * i + 1) 0 ≡ len → ⊥) → equal_blocks (drop (2 * i) w) len ≡ 0
+equal_stops w i len h d = equal_stop w i _ _ h refl refl len d
+
+pub equal_done : (w : List ℕ) (i len : ℕ) → length w ≤ 2 * i + 1 → equal_blocks (drop (2 * i) w) len ≡ 0
+equal_done w i len h = equal_end w i len h
+
 -- the same from the map's start: what a walk from a block that was found needs, and where it ends
 module _ (m : List ℕ) (b e s l r : ℕ) (h : place m b ≡ At e s l r) where
   pub found_entry : (2 * e + 1 < length m) × (get_or m (2 * e + 1) 0 ≡ l)

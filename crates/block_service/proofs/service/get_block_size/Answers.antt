@@ -7,14 +7,8 @@ use Rattle.volume.proofs.state.Lawful.{lawful}
 use Rattle.block_service.specs.Blocks.{place}
 use Rattle.block_service.specs.Service.{get_block_size, block_size_answer, buffer_of, refusals}
 use Rattle.block_service.proofs.blocks.Runs.{found_entry, found_number, number_fits}
-use Rattle.block_service.proofs.service.Steps.{tested_unlawful, tested_lawful, refused-step, size_step, place_row, place_there_lem}
+use Rattle.block_service.proofs.service.Steps.{tested_lawful, refused-step, size_step, place_row, place_there_lem}
 use Rattle.block_service.proofs.service.get_block_size.Goals as goal
-
-pub returns-in_err-test_lawful : goal.returns-in_err-test_lawful
-unfolding block_size_answer buffer_of
-returns-in_err-test_lawful c v =
-    let r : c.from_residual.result ≡ Err c.in_err-test_lawful.field-0.0 = search rules in
-    rw r (tested_unlawful _ v (get_block_size _) _ c.in_err-test_lawful.ensures)
 
 pub returns-in_err-place : goal.returns-in_err-place
 unfolding block_size_answer buffer_of refusals

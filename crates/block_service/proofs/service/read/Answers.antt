@@ -1,28 +1,15 @@
 -- `block_service::service::read` meets its contract: the rows of the table, and then the bytes moved.
 use Rattle.std.proofs.Common.{◌≡◌, Err, sym, ap, rules}
 use Rattle.block_service.specs.Blocks.{start_of, length_of}
-use Rattle.block_service.specs.Service.{read, moved_answer, buffer_of, refusals}
-use Rattle.block_service.proofs.access.Moves.{moves}
-use Rattle.block_service.proofs.service.Steps.{refused-step, lent_first, read_lost, read_found, read_step}
+use Rattle.block_service.specs.Service.{moved_answer}
+use Rattle.block_service.proofs.service.Steps.{read_lost, read_found, read_step}
 use Rattle.block_service.proofs.service.read.Goals as goal
-
-pub returns-in_err-test_lent : goal.returns-in_err-test_lent
-unfolding moved_answer buffer_of refusals
-returns-in_err-test_lent c =
-    let r : c.from_residual.result ≡ Err c.in_err-test_lent.field-0.0 = search rules in
-    rw r (refused-step _ _ (read _ _ _) _ (lent_first _ _ _ _ _ (sym c.in_err-test_lent.ensures)))
 
 pub returns-in_err-place : goal.returns-in_err-place
 unfolding moved_answer
 returns-in_err-place c =
     let r : c.from_residual-in_err-place.result ≡ Err c.in_err-place.field-0.0 = search rules in
     rw r (read_lost _ _ _ _ _ _ (sym c.in_ok-test_lent.ensures) (rw c.map_words.ensures at c.in_err-place.ensures.refused))
-
-pub load-requires-clause-count_in_bounds : goal.load-requires-clause-count_in_bounds
-load-requires-clause-count_in_bounds c = (moves _ _ _ _ _ _ c.count_moved-count.ensures c.in_ok-place.ensures.within).0
-
-pub load-requires-clause-count_in_bounds_2 : goal.load-requires-clause-count_in_bounds_2
-load-requires-clause-count_in_bounds_2 c = (moves _ _ _ _ _ _ c.count_moved-count.ensures c.in_ok-place.ensures.within).1
 
 pub returns : goal.returns
 unfolding start_of length_of
