@@ -8,7 +8,7 @@ ghost use Rattle.block_service.specs.Carry.{filled, Carried, names_first, Rest, 
 ghost use Rattle.block_service.specs.Order.{up_from, firsts, named_blocks, bytes_of, erase_order, part};
 ghost use Rattle.block_service.specs.Marks.{marked};
 
-use crate::blocks::{Place, find_block, run_end};
+use crate::blocks::{find_place, run_end};
 use crate::erase::{END_OF_LIST, EraseList};
 use crate::marks::Marks;
 use std::ops::Range;
@@ -66,24 +66,17 @@ pub(crate) fn carry_list<L: EraseList>(
     walk.at
 }
 
-// The bytes of `count` blocks from the first on: one map scan.
-fn run_bytes(words: &[u32], first: usize, count: usize) -> Range<usize>
+// The bytes of `count` blocks from the first on, in a volume of which so many bytes are lent: one map scan.
+fn run_bytes(words: &[u32], lent: usize, first: usize, count: usize) -> Range<usize>
     requires words_bound { bytes words.now ≤ max_length }
+    requires words_in_bounds { bytes words.now ≤ lent }
     requires count_nonzero { (0 < count) × (first + count ≤ blocks words.now) }
     ensures { (result.start ≡ first_byte words.now first) × (result.end ≡ first_byte words.now (first + count)) }
 {
-    let found = find_block(words, first as u64);
-    let Place::At {
-        entry,
-        start,
-        len: _,
-        left,
-    } = found
-    else {
+    let Ok(place) = find_place(words, lent, first as u64) else {
         return 0..0;
     };
-    let end = run_end(words, entry, start, left, count);
-    start..end
+    place.start..run_end(words, place.entry, place.start, place.left, count)
 }
 
 // Marks the blocks that the list's first `pairs` pairs name.
@@ -224,7 +217,7 @@ impl<'a> Walk<'a> {
         ensures stored { let w = self.old in
             self.new.volume.now ≡ filled w.portion.value (part (w.portion.from - w.at) (w.portion.to - w.at) (bytes_of w.words.now (up_from first count))) w.volume.now }
     {
-        let run = run_bytes(self.words, first, count);
+        let run = run_bytes(self.words, self.volume.len(), first, count);
         let len = run.end - run.start;
         self.portion.store(self.volume, run, self.at);
         self.at += len;

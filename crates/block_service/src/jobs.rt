@@ -4,21 +4,17 @@
 // specs/Service. A call costs a test of the state, passes over the list, a scan of the map for each run of blocks, and the bytes that it
 // stores.
 ghost use Rattle.std.specs.Prelude.{true, ◌||◌, [], ◌≡◌, ◌≤◌, ℕ, eqb, ltb, length};
-ghost use Rattle.common.specs.Refusal.{refusal_of};
-ghost use Rattle.common.specs.Refusals.{first_refusal};
 ghost use Rattle.volume.specs.BlockMap.{blocks, bytes, max_length, max_blocks};
-ghost use Rattle.volume.specs.State.{map_of};
 ghost use Rattle.block_service.specs.Carry.{Progressed};
 ghost use Rattle.block_service.specs.Erase.{good_list};
 ghost use Rattle.block_service.specs.Service.{step, result_of, erase_blocks, accept_erase, carry_erase};
-ghost use Rattle.block_service.specs.Service.{erased_answer, accepted_answer, progress_answer, lent_refusals};
+ghost use Rattle.block_service.specs.Service.{erased_answer, accepted_answer, progress_answer};
 
 use crate::carry::{Portion, carry_list};
 use crate::erase::{EraseList, erased_byte, list_reaches, list_refusal};
+use crate::judged::write_refusal;
 use common::Refusal;
 use volume::State;
-use volume::attributes::{WRITE_STATUS, is_set};
-use volume::state::unlawful_state;
 
 // What carrying a job on answers: nothing is left, or the job as it now stands.
 #[derive(Clone, Copy, Debug, PartialEq, Eq)]
@@ -38,16 +34,14 @@ pub fn erase_blocks<L: EraseList>(
 ) -> Result<(), Refusal>
     ensures { result_of (erased_answer result) state.now volume.new [] ≡ step state.now volume.old (erase_blocks (L.words list)) }
 {
-    lent_refusal(state, volume.len() as u64, WRITE_STATUS)?;
-    let words = map_words(state);
-    let total = block_count(state);
-    list_refusal(total, state.protected, list)?;
+    write_refusal(state, volume.len() as u64)?;
+    list_refusal(state.block_count(), state.protected, list)?;
     let portion = Portion {
         value: erased_byte(state.attributes),
         from: 0,
         to: volume.len(),
     };
-    carry_list(words, volume, list, portion);
+    carry_list(state.map_words(), volume, list, portion);
     Ok(())
 }
 
@@ -57,9 +51,8 @@ pub fn erase_blocks<L: EraseList>(
 pub fn accept_erase<L: EraseList>(state: &State, volume: &[u8], list: L) -> Result<u64, Refusal>
     ensures { result_of (accepted_answer result) state.now volume.now [] ≡ step state.now volume.now (accept_erase (L.words list)) }
 {
-    lent_refusal(state, volume.len() as u64, WRITE_STATUS)?;
-    let total = block_count(state);
-    list_refusal(total, state.protected, list)?;
+    write_refusal(state, volume.len() as u64)?;
+    list_refusal(state.block_count(), state.protected, list)?;
     Ok(0)
 }
 
@@ -77,12 +70,18 @@ pub fn carry_erase<L: EraseList>(
 ) -> Result<Progress, Refusal>
     ensures { result_of (progress_answer result) state.now volume.new [] ≡ step state.now volume.old (carry_erase (L.words list) job stores) }
 {
-    lent_refusal(state, volume.len() as u64, WRITE_STATUS)?;
-    let words = map_words(state);
-    let total = block_count(state);
-    let reached = list_reaches(total, state.protected, list)?;
+    write_refusal(state, volume.len() as u64)?;
+    let reached = list_reaches(state.block_count(), state.protected, list)?;
     let value = erased_byte(state.attributes);
-    carry_good(words, volume, list, value, reached, job, stores)
+    carry_good(
+        state.map_words(),
+        volume,
+        list,
+        value,
+        reached,
+        job,
+        stores,
+    )
 }
 
 // Carries a job of a good list on, which reaches a protected block or not: counts the bytes of the order, judges the job, and stores.
@@ -134,45 +133,4 @@ fn job_given(all: usize, job: usize) -> bool
     ensures { result ≡ (eqb job 0 || ltb job all) }
 {
     job == 0 || job < all
-}
-
-// The words of the map's entries. The map has room for 32 entries; of a larger number these are all its words.
-#[tactic(auto, unfolding(volume::specs::State::map_of))]
-fn map_words(state: &State) -> &[u32]
-    ensures { result.now ≡ map_of state.now }
-{
-    &state.map[..2 * state.entries.min(32)]
-}
-
-// The number of blocks.
-#[tactic(auto, unfolding(volume::specs::State::map_of))]
-fn block_count(state: &State) -> u64
-    ensures { result ≡ blocks (map_of state.now) }
-{
-    volume::block_map::block_count(state.entries, &state.map)
-}
-
-// The refusals that the calls begin with to which the volume is lent: 111, then 5 (fewer bytes are lent than the volume has), then 15 (the
-// status is off).
-fn lent_refusal(state: &State, volume_len: u64, status: u32) -> Result<(), Refusal>
-    ensures { refusal_of result ≡ first_refusal (lent_refusals state.now volume_len status) }
-{
-    if unlawful_state(
-        state.length,
-        state.attributes,
-        state.base,
-        state.edition,
-        state.protected,
-        state.entries,
-        &state.map,
-    ) {
-        return Err(Refusal::UnlawfulState);
-    }
-    if volume_len < state.length {
-        return Err(Refusal::BufferTooSmall);
-    }
-    if !is_set(state.attributes, status) {
-        return Err(Refusal::AccessDenied);
-    }
-    Ok(())
 }

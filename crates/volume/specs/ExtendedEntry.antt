@@ -1,8 +1,10 @@
 -- The listing of an extended header's entries (document 02, a): "a listing that opens the volume itself and gives the first byte in the volume, size and
 -- type of the entry numbered, from 0, or 14".
-use Rattle.std.specs.Prelude.{ℕ, zero, suc, cond, List, [], ◌∷◌, ◌==◌}
+use Rattle.std.specs.Prelude.{ℕ, zero, suc, cond, List, [], ◌∷◌, ◌==◌, Result, Ok, Err}
 use Rattle.std.proofs.Math.Option.{Option, none, some}
 use Rattle.common.specs.Answers.{Answer, refused, success, refusal_in}
+use Rattle.common.specs.Refusal.{number}
+use Rattle.common.specs.declared.refusal.Refusal.{Refusal}
 use Rattle.common.specs.Refusals.{unless_refused}
 use Rattle.volume.specs.ExtendedHeader.{Entry, ext_offset, ext_entries}
 use Rattle.volume.specs.Header.{revision_at, open_volume}
@@ -27,7 +29,7 @@ entry_of (e ∷ rest) (suc n) = entry_of rest n
 unfoldable pub ext_entry : List ℕ → ℕ → Answer
 ext_entry s n = unless_refused (λ number. refused number) (refusal_in (open_volume s 0).answer) (entry_of (ext_entries_of s) n)
 
--- the answer that each case of the code's enum stands for
-unfoldable pub entry_answer : ExtEntry → Answer
-entry_answer (ExtEntry.Success first size entry-type) = success (first ∷ size ∷ entry-type ∷ [])
-entry_answer (ExtEntry.Refused n) = refused n
+-- what the code answers: the values of an entry, or a refusal with its number
+unfoldable pub entry_answer : Result ExtEntry Refusal → Answer
+entry_answer (Ok e) = success (e.first ∷ e.size ∷ e.entry_type ∷ [])
+entry_answer (Err e) = refused (number e)

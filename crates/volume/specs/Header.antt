@@ -1,9 +1,10 @@
 -- The volume header (document 01, Header; 000's EFI_FIRMWARE_VOLUME_HEADER), of both editions (document 02, a): what opening reads from it.
 -- "Lent" bytes are the caller's slice. Reserved bytes (54, and in edition 1 also 52 and 53) and the zero vector (0..15) are read by nothing but the
 -- word sum.
-use Rattle.std.specs.Prelude.{ℕ, zero, suc, ◌+◌, ◌-◌, ◌*◌, ◌/◌, ◌%◌, Bool, not, ◌||◌, List, [], ◌∷◌, length, take, drop, ◌==◌, nat_lt, slice_index}
-use Rattle.std.proofs.Math.Option.{Option, none, some}
+use Rattle.std.specs.Prelude.{ℕ, zero, suc, ◌+◌, ◌-◌, ◌*◌, ◌/◌, ◌%◌, Bool, not, ◌||◌, List, [], ◌∷◌, length, take, drop, ◌==◌, nat_lt, slice_index, Result, Ok, Err}
 use Rattle.common.specs.Answers.{Answer, refused, success}
+use Rattle.common.specs.Refusal.{number}
+use Rattle.common.specs.declared.refusal.Refusal.{Refusal}
 use Rattle.common.specs.Refusals.{Row, row, first_refusal, unless_refused, any}
 use Rattle.numbers.specs.LittleEndian.{le}
 use Rattle.volume.specs.Attributes.{known_edition, attributes_fault, base_fault}
@@ -11,7 +12,6 @@ use Rattle.volume.specs.BlockMap.{empty_header, entry_length, header_length, max
 use Rattle.volume.specs.ExtendedHeader.{ext_offset, ext_fault}
 use Rattle.volume.specs.State.{state_of, zero_state, map_of}
 use Rattle.volume.specs.declared.state.State.{State}
-use Rattle.volume.specs.declared.header.Opening.{Opening}
 
 -- ---- fields
 
@@ -127,10 +127,10 @@ opens answer st = record { answer = answer; state = st }
 abbrev pub opened : State → Opens
 opened st = opens (success []) st
 
--- the answer that each case of the code's enum stands for
-unfoldable pub opening_answer : Opening → Answer
-opening_answer Opening.Success = success []
-opening_answer (Opening.Refused n) = refused n
+-- what the code answers: the state, or a refusal with its number, beside which stands the zero state
+unfoldable pub opening_of : Result State Refusal → Opens
+opening_of (Ok st) = opened st
+opening_of (Err e) = opens (refused (number e)) zero_state
 
 -- opening: the lent bytes and a base address
 unfoldable pub open_volume : List ℕ → ℕ → Opens
@@ -138,7 +138,9 @@ open_volume s base =
     let st = state_at s base in
     unless_refused (λ n. opens (refused n) zero_state) (first_refusal (open_refusals s st)) (opened st)
 
--- private to the code's contracts: the refusal that an answer is, where it is one
-unfoldable pub refusal_of : Opening → Option ℕ
-refusal_of Opening.Success = none
-refusal_of (Opening.Refused n) = some n
+-- the rows 101 to 105 of opening's table, which no state enters, and 106 to 112
+abbrev pub bytes_refusals : List ℕ → List Row
+bytes_refusals s = take 5 (open_refusals s zero_state)
+
+abbrev pub fields_refusals : List ℕ → State → List Row
+fields_refusals s st = drop 5 (open_refusals s st)

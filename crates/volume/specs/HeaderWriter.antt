@@ -1,14 +1,15 @@
 -- Writing a volume header (document 01: "writing a header takes GUID, length, attributes and the map words without the closing pair. It
 -- stores exactly the header, its checksum worked out, at the start of the room and answers its length"). "For revision 2 a second writer takes the
 -- offset too" (document 02, a): the edition and the offset of an extended header come first, 1 and 0 for the first writer.
-use Rattle.std.specs.Prelude.{ℕ, ◌-◌, ◌/◌, ◌%◌, Bool, not, ◌||◌, List, [], ◌∷◌, ◌++◌, length, drop, replicate, ◌==◌, nat_lt}
+use Rattle.std.specs.Prelude.{ℕ, ◌-◌, ◌/◌, ◌%◌, Bool, not, ◌||◌, List, [], ◌∷◌, ◌++◌, length, drop, replicate, ◌==◌, nat_lt, Result, Ok, Err}
 use Rattle.common.specs.Answers.{Answer, refused, success}
+use Rattle.common.specs.Refusal.{number}
+use Rattle.common.specs.declared.refusal.Refusal.{Refusal}
 use Rattle.common.specs.Refusals.{Row, row, first_refusal, unless_refused}
 use Rattle.numbers.specs.LittleEndian.{le_bytes}
 use Rattle.volume.specs.Attributes.{attributes_fault}
 use Rattle.volume.specs.BlockMap.{header_length, has_zero, size_fault}
 use Rattle.volume.specs.Header.{signature, word_modulus, word_sum}
-use Rattle.volume.specs.declared.header_writer.Written.{Written}
 
 -- the number of entries of a list of map words
 abbrev pub pairs : List ℕ → ℕ
@@ -65,10 +66,10 @@ pub record HeaderWritten : Type 0 where
 abbrev pub wrote : Answer → List ℕ → HeaderWritten
 wrote answer room = record { answer = answer; room = room }
 
--- the answer that each case of the code's enum stands for
-unfoldable pub written_answer : Written → Answer
-written_answer (Written.Success k) = success (k ∷ [])
-written_answer (Written.Refused n) = refused n
+-- what the code answers: the header's length, or a refusal with its number
+unfoldable pub written_answer : Result ℕ Refusal → Answer
+written_answer (Ok k) = success (k ∷ [])
+written_answer (Err e) = refused (number e)
 
 -- writing a header at the start of a room: it answers its length and stores exactly the header; a refusal leaves the room as it was
 unfoldable pub write_header : ℕ → ℕ → List ℕ → ℕ → ℕ → List ℕ → List ℕ → HeaderWritten

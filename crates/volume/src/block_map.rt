@@ -1,8 +1,6 @@
 // The rules of a block map's words, 106 and 107, and the number of its blocks, with 111's test of the first protected one.
-ghost use Rattle.std.specs.Prelude.{◌≡◌, ◌*◌, ◌≤◌, not, ◌||◌, length, take, ◌==◌, nat_lt};
+ghost use Rattle.std.specs.Prelude.{◌≡◌, ◌*◌, ◌/◌, ◌%◌, ◌≤◌, not, ◌||◌, length, ◌==◌, nat_lt};
 ghost use Rattle.volume.specs.BlockMap.{has_zero, all_zero, blocks, bytes, header_length, max_entries, max_blocks, max_length, size_fault};
-
-use numbers::wide;
 
 pub const MAX_ENTRIES: usize = 32;
 
@@ -56,79 +54,54 @@ pub(crate) fn all_zero(words: &[u32]) -> bool
     gathered == 0
 }
 
-// The number of blocks of a state's map: the sum of its entries' counts. The map has room for MAX_ENTRIES entries; a
-// larger number of entries counts those.
-#[tactic(auto, using(crate::proofs::block_map::Words::counted_end))]
-pub fn block_count(entries: usize, map: &[u32; 64]) -> u64
-    ensures { result ≡ blocks (take (2 * entries) map.now) }
+// The number of blocks of a map's words: the sum of the entries' counts.
+#[tactic(auto, using(crate::proofs::block_map::Words::blocks_entry, crate::proofs::block_map::Words::blocks_end))]
+pub(crate) fn count_blocks(words: &[u32]) -> u64
+    requires { length words.now ≤ 2 * max_entries }
+    ensures { result ≡ blocks words.now }
 {
-    let words: &[u32] = map;
     let mut count: u64 = 0;
-    let mut i = 0;
-    while i < entries {
-        if MAX_ENTRIES <= i {
-            return count;
-        }
-        count += wide(words[2 * i]);
-        i += 1;
+    for i in 0..words.len() / 2 {
+        count += u64::from(words[2 * i]);
     }
     count
 }
 
-// Whether n entries with these words and a volume of `len` bytes break rule 106, by a zero word, or rule 107.
-pub(crate) fn map_fault(n: usize, words: &[u32], len: u64) -> bool
-    requires { length words.now ≡ 2 * n }
-    ensures { result ≡ (has_zero words.now || size_fault n words.now len) }
+// Whether a map of these words and a volume of `len` bytes break rule 106, by a zero word, or rule 107, or a first protected block is past the number
+// of blocks, as rule 111 has it (0 never is): one pass over the entries for all three.
+pub(crate) fn map_fault(words: &[u32], len: u64, protected: u64) -> bool
+    requires { length words.now % 2 ≡ 0 }
+    ensures { result ≡ (has_zero words.now || (size_fault (length words.now / 2) words.now len || nat_lt (blocks words.now) protected)) }
 {
-    protected_map_fault(n, words, len, 0)
-}
-
-// The same, or a first protected block past the number of blocks, as rule 111 has it: one pass over the entries for all three.
-pub(crate) fn protected_map_fault(n: usize, words: &[u32], len: u64, protected: u64) -> bool
-    requires { length words.now ≡ 2 * n }
-    ensures { result ≡ (has_zero words.now || (size_fault n words.now len || nat_lt (blocks words.now) protected)) }
-{
-    if n == 0 {
+    let entries = words.len() / 2;
+    if entries == 0
+        || MAX_ENTRIES < entries
+        || MAX_LENGTH < len
+        || len < header_length(entries) as u64
+    {
         return true;
     }
-    if MAX_ENTRIES < n {
-        return true;
-    }
-    if MAX_LENGTH < len {
-        return true;
-    }
-    if len < header_length(n) as u64 {
-        return true;
-    }
-    totals_fault(n, words, len, protected)
+    totals_fault(words, len, protected)
 }
 
 // A zero word, too many blocks, counts times lengths that don't total the length, or fewer blocks than the first protected
 // one. The totals are true sums: 32 counts and 32 sizes of at most 16,777,216 bytes fit 64 bits.
-fn totals_fault(n: usize, words: &[u32], len: u64, protected: u64) -> bool
-    requires { (length words.now ≡ 2 * n) × (n ≤ max_entries) × (len ≤ max_length) }
+fn totals_fault(words: &[u32], len: u64, protected: u64) -> bool
+    requires { (length words.now % 2 ≡ 0) × (length words.now ≤ 2 * max_entries) × (len ≤ max_length) }
     ensures { result ≡ (has_zero words.now || (nat_lt max_blocks (blocks words.now) || (not (bytes words.now == len) || nat_lt (blocks words.now) protected))) }
 {
     let mut blocks_so_far: u64 = 0;
     let mut bytes_so_far: u64 = 0;
-    let mut i = 0;
-    while i < n {
-        let count = wide(words[2 * i]);
-        let size = count * wide(words[2 * i + 1]);
-        if size == 0 {
-            return true;
-        }
-        if MAX_LENGTH < size {
+    for i in 0..words.len() / 2 {
+        let count = u64::from(words[2 * i]);
+        let size = count * u64::from(words[2 * i + 1]);
+        if size == 0 || MAX_LENGTH < size {
             return true;
         }
         blocks_so_far += count;
         bytes_so_far += size;
-        i += 1;
     }
-    if MAX_BLOCKS < blocks_so_far {
-        return true;
-    }
-    if bytes_so_far != len {
+    if MAX_BLOCKS < blocks_so_far || bytes_so_far != len {
         return true;
     }
     blocks_so_far < protected

@@ -4,42 +4,36 @@ ghost use Rattle.volume.specs.ExtendedHeader.{entries_from, entries_faulty};
 ghost use Rattle.volume.specs.ExtendedEntry.{entries_listed, entry_answer, entry_of, ext_entry};
 
 use crate::extended_header::{EXT_ENTRIES, EXT_HEADER_OFFSET, EXT_SIZE, EXT_TYPE};
-use crate::header::{Opening, open_volume};
+use crate::header::open_volume;
+use common::Refusal;
 
-// An entry: its first byte in the volume, its size and its type. Or the refusal's number: opening's, or 14.
-#[derive(Clone, Copy)]
-pub enum ExtEntry {
-    Success {
-        first: usize,
-        size: u16,
-        entry_type: u16,
-    },
-    Refused(u16),
+// An entry: its first byte in the volume, its size and its type.
+#[derive(Clone, Copy, Debug, PartialEq, Eq)]
+pub struct ExtEntry {
+    pub first: usize,
+    pub size: u16,
+    pub entry_type: u16,
 }
 
 // The entry of this number, from 0, of a volume's extended header. The volume is opened at base 0, and a refusal of opening is answered as
 // it is; 14 where there is no such entry, no extended header, or the volume is of edition 1. Costs opening and the entries up to the one asked.
-pub fn ext_entry(volume: &[u8], number: u64) -> ExtEntry
+pub fn ext_entry(volume: &[u8], number: u64) -> Result<ExtEntry, Refusal>
     ensures { entry_answer result ≡ ext_entry volume.now number }
 {
-    let opened = open_volume(volume, 0);
-    let opening = opened.answer;
-    if let Opening::Refused(n) = opening {
-        return ExtEntry::Refused(n);
-    }
-    if opened.state.edition != 2 {
-        return ExtEntry::Refused(14);
+    let state = open_volume(volume, 0)?;
+    if state.edition != 2 {
+        return Err(Refusal::NotFound);
     }
     let offset = numbers::u16_at(volume, EXT_HEADER_OFFSET) as usize;
     if offset == 0 {
-        return ExtEntry::Refused(14);
+        return Err(Refusal::NotFound);
     }
     let end = offset + numbers::u32_at(volume, offset + EXT_SIZE) as usize;
     entry_from(volume, offset + EXT_ENTRIES, end, number)
 }
 
 // The entry of this number among those from a place up to an end, none of which is at fault.
-fn entry_from(s: &[u8], from: usize, end: usize, number: u64) -> ExtEntry
+fn entry_from(s: &[u8], from: usize, end: usize, number: u64) -> Result<ExtEntry, Refusal>
     requires { entries_faulty (entries_from s.now from end) ≡ false }
     ensures { entry_answer result ≡ entry_of (entries_listed (entries_from s.now from end)) number }
 {
@@ -48,14 +42,14 @@ fn entry_from(s: &[u8], from: usize, end: usize, number: u64) -> ExtEntry
     while at < end {
         let size = numbers::u16_at(s, at);
         if left == 0 {
-            return ExtEntry::Success {
+            return Ok(ExtEntry {
                 first: at,
                 size,
                 entry_type: numbers::u16_at(s, at + EXT_TYPE),
-            };
+            });
         }
         left -= 1;
         at += size as usize;
     }
-    ExtEntry::Refused(14)
+    Err(Refusal::NotFound)
 }

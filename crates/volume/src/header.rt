@@ -1,15 +1,16 @@
 // The volume header: opening a volume.
-ghost use Rattle.std.specs.Prelude.{◌≡◌, ℕ, ◌+◌, ◌*◌, ◌%◌, ◌≤◌, List, [], ◌∷◌, ◌++◌, length, take, drop};
-ghost use Rattle.common.specs.Answers.{refused};
-ghost use Rattle.common.specs.Refusals.{first_refusal, row};
-ghost use Rattle.volume.specs.Header.{header_length_at, header_length_fault, map_start, open_refusals, open_volume, opening_answer, opens, refusal_of, word_modulus, word_sum, words_at};
+ghost use Rattle.std.specs.Prelude.{◌≡◌, ℕ, ◌+◌, ◌*◌, ◌%◌, ◌≤◌, ◌++◌, length, take, drop};
+ghost use Rattle.std.proofs.Math.Option.{none};
+ghost use Rattle.common.specs.Refusal.{refusal_of};
+ghost use Rattle.common.specs.Refusals.{first_refusal};
+ghost use Rattle.volume.specs.Header.{bytes_refusals, fields_refusals, header_length_at, header_length_fault, map_start, open_volume, opening_of, state_at, word_modulus, word_sum, words_at};
 ghost use Rattle.volume.specs.BlockMap.{entry_length};
-ghost use Rattle.volume.specs.State.{state_with, zero_state};
 
 use crate::attributes::{attributes_fault, base_fault, edition_fault};
-use crate::block_map::{EMPTY_HEADER, ENTRY_LENGTH, block_count, has_zero, map_fault};
+use crate::block_map::{EMPTY_HEADER, ENTRY_LENGTH, count_blocks, has_zero, map_fault};
 use crate::extended_header::ext_fault;
-use crate::state::{State, state_with};
+use crate::state::State;
+use common::Refusal;
 use std::num::wrapping_add_u16;
 
 // "_FVH", as the little-endian number of its bytes.
@@ -39,120 +40,91 @@ const SHORTEST_HEADER: usize = 72;
 
 const LONGEST_HEADER: usize = 320;
 
-// What opening answers: success, or the refusal's number in documents 01 and 02 (101 to 110, 112).
-#[derive(Clone, Copy)]
-pub enum Opening {
-    Success,
-    Refused(u16),
-}
-
-// The answer, and the state; on a refusal the zero state.
-#[derive(Clone, Copy)]
-pub struct Opened {
-    pub answer: Opening,
-    pub state: State,
-}
-
 // Opens a volume of either edition: answers the state that its header and the base address give, no block of it protected,
 // or the first of 101 to 110 and 112 that applies. Only the header is read, and in edition 2 the extended header.
-pub fn open_volume(volume: &[u8], base: u64) -> Opened
-    ensures { opens (opening_answer result.answer) result.state ≡ open_volume volume.now base }
+pub fn open_volume(volume: &[u8], base: u64) -> Result<State, Refusal>
+    ensures { opening_of result ≡ open_volume volume.now base }
 {
-    let early = bytes_refusal(volume);
-    if let Opening::Refused(n) = early {
-        return refuse(n);
-    }
-    let entries = (numbers::u16_at(volume, HEADER_LENGTH) as usize - EMPTY_HEADER) / ENTRY_LENGTH;
-    let length = numbers::u64_at(volume, LENGTH);
-    let attributes = numbers::u32_at(volume, ATTRIBUTES);
-    let edition = numbers::byte_at(volume, REVISION) as u32;
-    let mut map = [0u32; 64];
-    read_map(volume, entries, &mut map);
-    let late = fields_refusal(volume, length, attributes, base, edition, entries, &map);
-    if let Opening::Refused(n) = late {
-        return refuse(n);
-    }
-    let guid = guid_at(volume);
-    let protected = block_count(entries, &map);
-    Opened {
-        answer: Opening::Success,
-        state: state_with(
-            guid, length, attributes, base, edition, protected, entries, map,
-        ),
-    }
-}
-
-// A refusal of opening: the number, and the zero state.
-fn refuse(n: u16) -> Opened
-    ensures { opens (opening_answer result.answer) result.state ≡ opens (refused n) zero_state }
-{
-    Opened {
-        answer: Opening::Refused(n),
-        state: state_with([0; 16], 0, 0, 0, 0, 0, 0, [0; 64]),
-    }
+    test_bytes(volume)?;
+    let state = state_at(volume, base);
+    test_fields(volume, &state)?;
+    Ok(state)
 }
 
 // The table's first five rows, 101 to 105, which need no state.
-fn bytes_refusal(s: &[u8]) -> Opening
-    ensures { refusal_of result ≡ first_refusal (take 5 (open_refusals s.now zero_state)) }
+fn test_bytes(s: &[u8]) -> Result<(), Refusal>
+    ensures { refusal_of result ≡ first_refusal (bytes_refusals s.now) }
 {
     if s.len() < SHORTEST_HEADER {
-        return Opening::Refused(101);
+        return Err(Refusal::NoHeader);
     }
     if numbers::u32_at(s, SIGNATURE_PLACE) != SIGNATURE {
-        return Opening::Refused(102);
+        return Err(Refusal::WrongSignature);
     }
     if edition_fault(numbers::byte_at(s, REVISION) as u32) {
-        return Opening::Refused(103);
+        return Err(Refusal::UnknownRevision);
     }
     let header = numbers::u16_at(s, HEADER_LENGTH) as usize;
     if header_length_fault(header, s.len()) {
-        return Opening::Refused(104);
+        return Err(Refusal::WrongHeaderLength);
     }
     if word_sum(&s[..header]) != 0 {
-        return Opening::Refused(105);
+        return Err(Refusal::WrongWordSum);
     }
-    Opening::Success
+    Ok(())
 }
 
-// The table's other rows, 106 to 110 and 112, with the parts of what the state would be. The GUID and the first protected block have no part in them.
-// The map is lent, so that no state is copied to ask this.
-fn fields_refusal(
-    s: &[u8],
-    len: u64,
-    attributes: u32,
-    base: u64,
-    edition: u32,
-    entries: usize,
-    map: &[u32],
-) -> Opening
-    requires { (2 * entries ≤ length map.now) × (entry_length ≤ header_length_at s.now) }
-    ensures { (guid : List ℕ) (protected : ℕ) → refusal_of result ≡ first_refusal (drop 5 (open_refusals s.now (state_with guid len attributes base edition protected entries map.now))) }
+// The state that a header of a good length gives.
+fn state_at(s: &[u8], base: u64) -> State
+    requires { first_refusal (bytes_refusals s.now) ≡ none }
+    ensures { result ≡ state_at s.now base }
 {
-    let end = 2 * entries;
+    let entries = (numbers::u16_at(s, HEADER_LENGTH) as usize - EMPTY_HEADER) / ENTRY_LENGTH;
+    let mut map = [0u32; 64];
+    read_map(s, entries, &mut map);
+    State {
+        guid: guid_at(s),
+        length: numbers::u64_at(s, LENGTH),
+        attributes: numbers::u32_at(s, ATTRIBUTES),
+        edition: numbers::byte_at(s, REVISION) as u32,
+        base,
+        protected: count_blocks(&map[..2 * entries]),
+        entries,
+        map,
+    }
+}
+
+// The table's other rows, 106 to 110 and 112, of what the state would be.
+fn test_fields(s: &[u8], state: &State) -> Result<(), Refusal>
+    requires { (2 * state.now.entries ≤ 64) × (entry_length ≤ header_length_at s.now) }
+    ensures { refusal_of result ≡ first_refusal (fields_refusals s.now state.now) }
+{
+    let words = &state.map[..2 * state.entries];
     let closing = numbers::u16_at(s, HEADER_LENGTH) as usize - ENTRY_LENGTH;
-    if has_zero(&map[..end]) {
-        return Opening::Refused(106);
+    if has_zero(words) || numbers::u64_at(s, closing) != 0 {
+        return Err(Refusal::WrongBlockMap);
     }
-    if numbers::u64_at(s, closing) != 0 {
-        return Opening::Refused(106);
+    if map_fault(words, state.length, 0) {
+        return Err(Refusal::WrongLength);
     }
-    if map_fault(entries, &map[..end], len) {
-        return Opening::Refused(107);
+    if attributes_fault(state.edition, state.attributes) {
+        return Err(Refusal::WrongAttributes);
     }
-    if attributes_fault(edition, attributes) {
-        return Opening::Refused(108);
+    if (s.len() as u64) < state.length {
+        return Err(Refusal::VolumeCut);
     }
-    if (s.len() as u64) < len {
-        return Opening::Refused(109);
+    if base_fault(state.attributes, state.base) {
+        return Err(Refusal::UnalignedBase);
     }
-    if base_fault(attributes, base) {
-        return Opening::Refused(110);
+    if ext_fault(
+        s,
+        state.edition,
+        closing + ENTRY_LENGTH,
+        state.length as usize,
+    ) {
+        return Err(Refusal::WrongExtendedHeader);
     }
-    if ext_fault(s, edition, closing + ENTRY_LENGTH, len as usize) {
-        return Opening::Refused(112);
-    }
-    Opening::Success
+    Ok(())
 }
 
 // Whether a header length breaks rule 104.

@@ -14,14 +14,8 @@ use crate::header::{
     ATTRIBUTES, BLOCK_MAP, CHECKSUM, FILE_SYSTEM_GUID, HEADER_LENGTH, LENGTH, RESERVED, REVISION,
     SIGNATURE, SIGNATURE_PLACE, word_sum,
 };
+use common::Refusal;
 use std::num::wrapping_sub_u16;
-
-// What writing a header answers: its length, or the refusal's number in document 01 (106, 107, 108, 5).
-#[derive(Clone, Copy)]
-pub enum Written {
-    Success(usize),
-    Refused(u16),
-}
 
 // Writes the header of a volume of edition 1 at the start of a room, from its file system GUID, length, attributes and
 // block map, the map's words without the closing pair. The rest of the room stays, and on a
@@ -32,7 +26,7 @@ pub fn write_header(
     attributes: u32,
     map: &[u32],
     room: &mut [u8],
-) -> Written
+) -> Result<usize, Refusal>
     ensures { wrote (written_answer result) room.new ≡ write_header 1 0 guid len attributes map.now room.old }
 {
     write_edition(1, 0, guid, len, attributes, map, room)
@@ -47,7 +41,7 @@ pub fn write_pi_header(
     attributes: u32,
     map: &[u32],
     room: &mut [u8],
-) -> Written
+) -> Result<usize, Refusal>
     ensures { wrote (written_answer result) room.new ≡ write_header 2 offset guid len attributes map.now room.old }
 {
     write_edition(2, offset, guid, len, attributes, map, room)
@@ -62,32 +56,31 @@ fn write_edition(
     attributes: u32,
     map: &[u32],
     room: &mut [u8],
-) -> Written
+) -> Result<usize, Refusal>
     ensures { wrote (written_answer result) room.new ≡ write_header edition offset guid len attributes map.now room.old }
 {
     if has_zero(map) {
-        return Written::Refused(106);
+        return Err(Refusal::WrongBlockMap);
     }
     if map.len() % 2 != 0 {
-        return Written::Refused(106);
+        return Err(Refusal::WrongBlockMap);
     }
-    let n = map.len() / 2;
-    if map_fault(n, map, len) {
-        return Written::Refused(107);
+    if map_fault(map, len, 0) {
+        return Err(Refusal::WrongLength);
     }
     if attributes_fault(edition, attributes) {
-        return Written::Refused(108);
+        return Err(Refusal::WrongAttributes);
     }
-    let header = header_length(n);
+    let header = header_length(map.len() / 2);
     if room.len() < header {
-        return Written::Refused(5);
+        return Err(Refusal::BufferTooSmall);
     }
     store_fields(guid, len, attributes, header, room);
     store_back(edition, offset, room);
     store_map(map, room);
     let sum = word_sum(&room[..header]);
     numbers::store(room, CHECKSUM, 2, wrapping_sub_u16(0, sum) as u64);
-    Written::Success(header)
+    Ok(header)
 }
 
 // Stores the first 52 bytes of a header of this length, with 0 for the checksum.

@@ -14,6 +14,6 @@ pub mod header_writer;
 pub mod state;
 
 pub use crate::extended_entry::{ExtEntry, ext_entry};
-pub use crate::header::{Opened, Opening, open_volume, word_sum};
-pub use crate::header_writer::{Written, write_header, write_pi_header};
+pub use crate::header::{open_volume, word_sum};
+pub use crate::header_writer::{write_header, write_pi_header};
 pub use crate::state::State;

@@ -1,15 +1,14 @@
 // The state that opening answers and that every later call follows.
-ghost use Rattle.std.specs.Prelude.{◌≡◌, ℕ, List};
-ghost use Rattle.volume.specs.State.{state_with, unlawful};
+ghost use Rattle.std.specs.Prelude.{◌≡◌};
 
 use crate::attributes::{attributes_fault, base_fault, edition_fault};
-use crate::block_map::{MAX_ENTRIES, all_zero, protected_map_fault};
+use crate::block_map::{MAX_ENTRIES, all_zero, count_blocks, map_fault};
 
 // What a volume's header said when it was opened, and where the volume is mapped. The attributes
 // are what document 01 calls the settings. The edition is the header's revision, 1 or 2. The block map is the first `entries` pairs of `map`, each a
 // block count and a block length; the rest of `map` is zero. Blocks from `protected` on are neither written nor erased; where none is protected it is
 // the number of blocks, as opening leaves it (document 02's mark).
-#[derive(Clone, Copy)]
+#[derive(Clone, Copy, Debug, PartialEq, Eq)]
 pub struct State {
     pub guid: [u8; 16],
     pub length: u64,
@@ -21,61 +20,37 @@ pub struct State {
     pub map: [u32; 64],
 }
 
-// A state from its parts.
-pub(crate) fn state_with(
-    guid: [u8; 16],
-    length: u64,
-    attributes: u32,
-    base: u64,
-    edition: u32,
-    protected: u64,
-    entries: usize,
-    map: [u32; 64],
-) -> State
-    ensures { result ≡ state_with guid length attributes base edition protected entries map }
-{
-    State {
-        guid,
-        length,
-        attributes,
-        base,
-        edition,
-        protected,
-        entries,
-        map,
-    }
-}
+impl State {
+    ghost use Rattle.volume.specs.BlockMap.{blocks};
+    ghost use Rattle.volume.specs.State.{map_of, unlawful};
 
-// Whether a state of these parts breaks rule 111: an edition that is neither 1 nor 2, or 106, 107, 108 or 110, or a
-// nonzero word beyond its entries, or a first protected block past the number of blocks. The GUID has no part in it. The
-// parts come singly, with the map lent, so that no call copies a state to ask this.
-pub fn unlawful_state(
-    len: u64,
-    attributes: u32,
-    base: u64,
-    edition: u32,
-    protected: u64,
-    entries: usize,
-    map: &[u32; 64],
-) -> bool
-    ensures { (guid : List ℕ) → result ≡ unlawful (state_with guid len attributes base edition protected entries map.now) }
-{
-    if edition_fault(edition) {
-        return true;
+    // The words of the map's entries. The map has room for MAX_ENTRIES entries; of a larger number these are all its words.
+    pub fn map_words(&self) -> &[u32]
+        ensures { result.now ≡ map_of self.now }
+    {
+        &self.map[..2 * self.entries.min(MAX_ENTRIES)]
     }
-    if MAX_ENTRIES < entries {
-        return true;
+
+    // The number of blocks: the sum of the map entries' counts.
+    pub fn block_count(&self) -> u64
+        ensures { result ≡ blocks (map_of self.now) }
+    {
+        count_blocks(self.map_words())
     }
-    let words: &[u32] = map;
-    let end = 2 * entries;
-    if protected_map_fault(entries, &words[..end], len, protected) {
-        return true;
+
+    // Whether the state breaks rule 111: an edition that is neither 1 nor 2, or 106, 107, 108 or 110, or a nonzero word beyond its entries, or a first
+    // protected block past the number of blocks.
+    pub fn is_unlawful(&self) -> bool
+        ensures { result ≡ unlawful self.now }
+    {
+        if edition_fault(self.edition)
+            || MAX_ENTRIES < self.entries
+            || map_fault(self.map_words(), self.length, self.protected)
+            || attributes_fault(self.edition, self.attributes)
+            || base_fault(self.attributes, self.base)
+        {
+            return true;
+        }
+        !all_zero(&self.map[2 * self.entries..])
     }
-    if attributes_fault(edition, attributes) {
-        return true;
-    }
-    if base_fault(attributes, base) {
-        return true;
-    }
-    !all_zero(&words[end..])
 }

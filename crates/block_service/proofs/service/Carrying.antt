@@ -22,12 +22,9 @@ use Rattle.block_service.specs.Erase.{good_list, names, reaches}
 use Rattle.block_service.specs.Carry.{filled, Progressed}
 use Rattle.block_service.specs.Order.{member, part, erase_order, job_given, carry_change, finishes}
 use Rattle.block_service.specs.Service.{carry_erase, lent_refusals, refusals, effect, Result, result_of, perform, buffer_of, step, progress_answer, carry_answer}
-use Rattle.std.specs.Prelude as std
-use Rattle.std.specs.Prelude.{Ok, Err}
+use Rattle.std.specs.Prelude.{Result as Outcome, Ok, Err}
 use Rattle.common.specs.declared.refusal.Refusal.{Refusal}
-use Rattle.common.specs.declared.refusal.Refusal.TheVariants as R
 use Rattle.block_service.specs.declared.jobs.Progress.{Progress}
-use Rattle.block_service.specs.declared.jobs.Progress.TheVariants as Progress
 use Rattle.block_service.proofs.blocks.Places.{in_some_block, before_first_byte, first_byte_end}
 use Rattle.block_service.proofs.carry.OrderLists.{part-member, part_none}
 use Rattle.block_service.proofs.carry.Fills.{filled_none}
@@ -67,11 +64,11 @@ module _ (m w : List ℕ) (value job stores all : ℕ) (v u : List ℕ) (t : Boo
   unfolding job_given
   given = rw (et, ea)
 
-  pub progress_2 : t ≡ false → (reached : Bool) → Progressed m w value reached job stores v (Err R.InvalidParameter) u
+  pub progress_2 : t ≡ false → (reached : Bool) → Progressed m w value reached job stores v (Err Refusal.InvalidParameter) u
   unfolding first_refusal progress_answer
   progress_2 z reached = record { told = rw (given, z); left = rw (given, z) kept }
 
-  pub progress_15 : t ≡ true → (reached : Bool) → reached ≡ true → Progressed m w value reached job stores v (Err R.AccessDenied) u
+  pub progress_15 : t ≡ true → (reached : Bool) → reached ≡ true → Progressed m w value reached job stores v (Err Refusal.AccessDenied) u
   unfolding first_refusal progress_answer
   progress_15 z reached r = record { told = rw (given, z, r); left = rw (given, z, r) kept }
 
@@ -97,7 +94,7 @@ unfolding refusals
 carry_rows st n w job k lent good = lent_last st n write_status _ _ lent (ap not good)
 
 -- by what the rows say, a refusal or the portion
-finish : (st : State) (v w : List ℕ) (job n : ℕ) (r : std.Result Progress Refusal) (u : List ℕ) (o : Option ℕ) → first_refusal (refusals st (length v) (carry_erase w job n)) ≡ o
+finish : (st : State) (v w : List ℕ) (job n : ℕ) (r : Outcome Progress Refusal) (u : List ℕ) (o : Option ℕ) → first_refusal (refusals st (length v) (carry_erase w job n)) ≡ o
     → progress_answer r ≡ unless_refused (λ k. refused k) o (carry_answer (finishes (map_of st) w job n) (job + n))
     → u ≡ unless_refused (λ k. v) o (filled (erased_byte st.attributes) (part job (job + n) (erase_order (map_of st) w)) v)
     → result_of (progress_answer r) st u [] ≡ step st v (carry_erase w job n)
@@ -118,7 +115,7 @@ unfolding refusals buffer_of
 carry_bad st v w job n e bad = refused-step st v (carry_erase w job n) 2 (lent_2 st (length v) write_status _ _ e bad)
 
 -- so a carrying on whose first rows pass does what is said of a good list
-pub progress_step : (st : State) (v w : List ℕ) (job n : ℕ) (r : std.Result Progress Refusal) (u : List ℕ) → first_refusal (lent_refusals st (length v) write_status) ≡ none
+pub progress_step : (st : State) (v w : List ℕ) (job n : ℕ) (r : Outcome Progress Refusal) (u : List ℕ) → first_refusal (lent_refusals st (length v) write_status) ≡ none
     → good_list (blocks (map_of st)) w ≡ true → Progressed (map_of st) w (erased_byte st.attributes) (reaches st.protected w) job n v r u
     → result_of (progress_answer r) st u [] ≡ step st v (carry_erase w job n)
 progress_step st v w job n r u lent good p = go (first_refusal rest) refl
@@ -143,7 +140,7 @@ given-le job all t e z = go (eqb job 0) refl (ltb job all) refl (sym e ∙ z)
     go false p false q h = absurd (true≢false (sym h))
 
 -- the same of an equal value and an equal test
-pub progressed_as : (m w : List ℕ) (value x : ℕ) (reached y : Bool) (job n : ℕ) (v : List ℕ) (r : std.Result Progress Refusal) (u : List ℕ) → value ≡ x → reached ≡ y
+pub progressed_as : (m w : List ℕ) (value x : ℕ) (reached y : Bool) (job n : ℕ) (v : List ℕ) (r : Outcome Progress Refusal) (u : List ℕ) → value ≡ x → reached ≡ y
     → Progressed m w value reached job n v r u → Progressed m w x y job n v r u
 progressed_as m w value x reached y job n v r u p q h =
     subst (λ (z : Bool). Progressed m w x z job n v r u) q (subst (λ (z : ℕ). Progressed m w z reached job n v r u) p h)

@@ -1,5 +1,5 @@
 -- Laws of a block map's words: one entry at a time, for the loops over them, and what breaks rule 107.
-use Rattle.std.proofs.Common.{◌≡◌, ℕ, zero, suc, ◌+◌, ◌*◌, ◌^◌, ◌<◌, ◌≤◌, min, Bool, true, false, not, ◌&&◌, ◌||◌, eqb, ltb, List, length, get_or, take, drop, refl, suc-mul, mul-le-mul, pos_of_ne-zero, mul-zero, zero-mul, add-one, arith, drop_of_length-le, length-take, drop-cons, get_or-take, ltb-false, le-ltb, lt-ltb, eq-eqb, ne_eqb, eqb-true}
+use Rattle.std.proofs.Common.{◌≡◌, ℕ, zero, suc, ◌+◌, ◌*◌, ◌^◌, ◌<◌, ◌≤◌, min, Bool, true, false, not, ◌&&◌, ◌||◌, eqb, ltb, List, [], ◌∷◌, length, get_or, take, drop, refl, suc-mul, mul-le-mul, pos_of_ne-zero, mul-zero, zero-mul, add-one, arith, drop_of_length-le, length-drop, drop-cons, ltb-false, le-ltb, lt-ltb, eq-eqb, ne_eqb, eqb-true, sym, ◌∙◌, take_all, ltb-true, ◌/◌}
 use mathlib.Core.Bool.{or-true, or-false, and-true, and_assoc}
 use borrow.Author.Tests.{eqb-false, not-false}
 use lib.Bits.{bit_or, or_zero_l, or_add_and, and_le_r}
@@ -18,24 +18,27 @@ pub bytes_entry : (w : List ℕ) (i : ℕ) → 2 * i + 1 < length w
 unfolding bytes
 bytes_entry w i h = let e : 2 * (i + 1) ≡ 2 * i + 2 = omega arith in rw (e, drop_two w (2 * i) h)
 
--- past the last entry there are none
-pub blocks_end : (w : List ℕ) (i : ℕ) → length w ≤ 2 * i → blocks (drop (2 * i) w) ≡ 0
+-- past the last entry there are none; an odd word at the end is no entry
+blocks_few : (w : List ℕ) → length w ≤ 1 → blocks w ≡ 0
 unfolding blocks
-blocks_end w i h = rw (drop_of_length-le w {i = 2 * i} h)
+blocks_few [] h = refl
+blocks_few (x ∷ []) h = refl
+blocks_few (x ∷ y ∷ w) h = absurd (omega arith)
+
+pub blocks_end : (w : List ℕ) (i : ℕ) → length w ≤ 2 * i + 1 → blocks (drop (2 * i) w) ≡ 0
+blocks_end w i h = blocks_few (drop (2 * i) w) (rw length-drop (omega arith))
 
 pub bytes_end : (w : List ℕ) (i : ℕ) → length w ≤ 2 * i → bytes (drop (2 * i) w) ≡ 0
 unfolding bytes
 bytes_end w i h = rw (drop_of_length-le w {i = 2 * i} h)
 
--- the same of the first n entries of a map of 64 words: an entry below n and below 32, and the entries from either on
-module _ (map : List ℕ) (n i : ℕ) (h : length map ≡ 64) where
-  pub counted_entry : i < n → i < max_entries → blocks (drop (2 * i) (take (2 * n) map)) ≡ get_or map (2 * i) 0 + blocks (drop (2 * (i + 1)) (take (2 * n) map))
-  counted_entry p q =
-      let inside : 2 * i + 1 < length (take (2 * n) map) = rw (length-take (2 * n) map, h) (omega arith) in
-      rw (get_or-take (2 * n) map (2 * i) 0 (omega arith)) at (blocks_entry (take (2 * n) map) i inside)
-
-  pub counted_end : min n max_entries ≤ i → blocks (drop (2 * i) (take (2 * n) map)) ≡ 0
-  counted_end p = blocks_end (take (2 * n) map) i (rw (length-take (2 * n) map, h) (omega arith))
+-- the words of n entries of a map of 64, which has room for 32
+pub words_there : (map : List ℕ) (n m : ℕ) → length map ≡ 64 → m ≡ min n max_entries → take (2 * m) map ≡ take (2 * n) map
+words_there map n m h e = go (ltb max_entries n) refl
+  where
+    go : (t : Bool) → ltb max_entries n ≡ t → take (2 * m) map ≡ take (2 * n) map
+    go true q = let p : max_entries < n = ltb-true max_entries n q in take_all (2 * m) map (omega arith) ∙ sym (take_all (2 * n) map (omega arith))
+    go false q = let p : n ≤ max_entries = ltb-false max_entries n q in let same : m ≡ n = omega arith in rw same
 
 -- a product of two 32-bit numbers fits 64 bits
 pub product_fits : (a b : ℕ) → a < 2 ^ 32 → b < 2 ^ 32 → a * b < 2 ^ 64
@@ -79,6 +82,11 @@ module _ (w : List ℕ) (len protected : ℕ) where
 
   pub totals_end : (b : ℕ) → has_zero w ≡ false → blocks w ≤ max_blocks → bytes w ≡ len → blocks w ≡ b → ltb b protected ≡ Totals
   totals_end b z h e q = rw (z, le-ltb max_blocks (blocks w) h, eq-eqb (bytes w) len e, q)
+
+-- a test of words none of which is zero, with no block protected, is rule 107's
+pub size_tested : (w : List ℕ) {n : ℕ} (len : ℕ) {t : Bool} → has_zero w ≡ false → length w / 2 ≡ n
+    → t ≡ (has_zero w || (size_fault (length w / 2) w len || ltb (blocks w) 0)) → t ≡ size_fault n w len
+size_tested w len z e h = rw (z, e, le-ltb (blocks w) 0 (omega arith), or-false) at h
 
 -- what a map that passes rule 107 is known to be
 pub record Sized (n : ℕ) (w : List ℕ) (len : ℕ) : Type 0 where

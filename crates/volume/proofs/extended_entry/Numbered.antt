@@ -7,9 +7,8 @@ use Rattle.common.specs.Refusals.{first_refusal}
 use Rattle.numbers.specs.LittleEndian.{le}
 use Rattle.volume.specs.ExtendedHeader.{min_ext_header, ext_offset, ext_size_at, Entry, ext_entry_at, entry_before, entries_from, entries_faulty, ext_fault}
 use Rattle.volume.specs.ExtendedEntry.{ext_entries_of, entry_of, ext_entry, entries_listed}
-use Rattle.volume.specs.Header.{length_at, revision_at, header_length_at, state_at, open_refusals, Opens, opens, opening_answer, open_volume}
-use Rattle.volume.specs.State.{state_of, state_with}
-use Rattle.volume.specs.declared.header.Opening.{Opening}
+use Rattle.volume.specs.Header.{length_at, revision_at, header_length_at, state_at, open_refusals, Opens, opens, opened, open_volume}
+use Rattle.volume.specs.State.{state_of, state_with, zero_state}
 use Rattle.volume.specs.declared.state.State.{State}
 use Rattle.volume.proofs.extended_header.Entries.{Next, next, good_within, whole, entries_end, entries_next, extended}
 use Rattle.volume.proofs.header.Fields.{opened-passed, opening_refused, opening_success}
@@ -35,16 +34,15 @@ none_asked s at end left e = rw (e, entries_end s end)
 
 -- ---- after opening, as the call has it in hand
 
-module _ (s : List ℕ) (number : ℕ) (opening : Opening) (st : State) (o : opens (opening_answer opening) st ≡ open_volume s 0) where
+module _ (s : List ℕ) (number : ℕ) where
   -- opening is refused
-  pub entry_refused : (n : ℕ) → opening ≡ Opening.Refused n → refused n ≡ ext_entry s number
-  unfolding opening_answer ext_entry
-  entry_refused n told = rw (← o, told)
+  pub entry_refused : (n : ℕ) → opens (refused n) zero_state ≡ open_volume s 0 → refused n ≡ ext_entry s number
+  unfolding ext_entry
+  entry_refused n o = rw (← o)
 
-  module _ (told : opening ≡ Opening.Success) where
+  module _ (st : State) (o : opened st ≡ open_volume s 0) where
     succeeded : (open_volume s 0).answer ≡ success []
-    unfolding opening_answer
-    succeeded = sym (ap (λ (x : Opens). x.answer) o) ∙ ap opening_answer told
+    succeeded = sym (ap (λ (x : Opens). x.answer) o)
 
     entry_is : ext_entry s number ≡ entry_of (ext_entries_of s) number
     unfolding ext_entry

@@ -3,14 +3,14 @@ use Rattle.std.proofs.Common.{◌≡◌, ℕ, zero, suc, ◌+◌, ◌*◌, ◌%�
 use mathlib.Core.Option.{Option, none, some}
 use borrow.Author.Tests.{not-false}
 use Rattle.common.specs.Answers.{refused, success}
-use Rattle.common.specs.Refusals.{Row, first_refusal, unless_refused}
+use Rattle.common.specs.Refusals.{first_refusal, unless_refused}
 use Rattle.common.proofs.Refusals.{any-passed, row-passed, then_passed, then_refused}
 use Rattle.common.proofs.Lists.{drop-zeros}
 use Rattle.numbers.specs.LittleEndian.{le}
 use Rattle.volume.specs.Attributes.{known_edition}
 use Rattle.volume.specs.BlockMap.{max_entries, blocks}
 use Rattle.volume.specs.State.{state_with, state_of, zero_state}
-use Rattle.volume.specs.Header.{guid_at, length_at, attributes_at, revision_at, header_length_at, entries_of, map_start, word_modulus, word_sum, words_at, state_at, header_length_fault, min_header, max_header, open_refusals, Opens, opens, opened, open_volume}
+use Rattle.volume.specs.Header.{guid_at, length_at, attributes_at, revision_at, header_length_at, entries_of, map_start, word_modulus, word_sum, words_at, state_at, header_length_fault, min_header, max_header, open_refusals, bytes_refusals, fields_refusals, Opens, opens, opened, open_volume}
 use Rattle.volume.specs.declared.state.State.{State}
 
 -- k words, and the word at place i of them
@@ -28,13 +28,6 @@ words_at_at (suc k) s at (suc i) h =
     words_at_at k s (at + 4) i (omega arith) ∙ ap (λ (x : ℕ). le 4 s x) e
 
 -- ---- opening
-
--- the rows 101 to 105 of opening's table, which no state enters, and 106 to 112
-abbrev pub bytes_refusals : List ℕ → List Row
-bytes_refusals s = take 5 (open_refusals s zero_state)
-
-abbrev pub fields_refusals : List ℕ → State → List Row
-fields_refusals s st = drop 5 (open_refusals s st)
 
 pub rows_split : (s : List ℕ) (st : State) → open_refusals s st ≡ bytes_refusals s ++ fields_refusals s st
 unfolding open_refusals
@@ -87,7 +80,7 @@ state_parts s base {n = n} l a r e m =
     rw (l, a, r, m, take_at (words_at (2 * n) s map_start) (drop (2 * n) (replicate 64 0)) (2 * n) (length-words_at (2 * n) s map_start), drop-zeros (2 * n) 64, e)
 
 -- a readable header's state keeps the limit of entries
-entries_bound : (s : List ℕ) (base : ℕ) → Readable s → 2 * (state_at s base).entries ≤ 2 * max_entries
+pub entries_bound : (s : List ℕ) (base : ℕ) → Readable s → 2 * (state_at s base).entries ≤ 2 * max_entries
 unfolding state_at state_of state_with
 entries_bound s base r = omega arith
 

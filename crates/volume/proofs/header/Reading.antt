@@ -11,9 +11,9 @@ use Rattle.volume.specs.Attributes.{known_edition, attributes_fault, base_fault}
 use Rattle.volume.specs.BlockMap.{blocks, has_zero, all_zero, size_fault}
 use Rattle.volume.specs.ExtendedHeader.{min_ext_header, ext_offset, ext_size_at, Entry, ext_entry_at, entry_fault, entry_before, entries_in, entries_from, ext_fault}
 use Rattle.volume.specs.State.{state_with, state_of, zero_state, map_of, unlawful}
-use Rattle.volume.specs.Header.{length_at, signature, revision_at, header_length_at, words_at, word_sum, running_sums, state_at, header_length_fault, map_fault, open_refusals, opens, opened, open_volume, word_modulus}
+use Rattle.volume.specs.Header.{length_at, signature, revision_at, header_length_at, words_at, word_sum, running_sums, state_at, header_length_fault, map_fault, open_refusals, opens, opened, open_volume, word_modulus, bytes_refusals, fields_refusals}
 use Rattle.volume.specs.declared.state.State.{State}
-use Rattle.volume.proofs.header.Fields.{bytes_refusals, fields_refusals, rows_split, length-words_at, readable, open_late, open_success, opened-passed}
+use Rattle.volume.proofs.header.Fields.{rows_split, length-words_at, readable, open_late, open_success, opened-passed}
 use Rattle.volume.proofs.header.Sums.{length_running, running_last}
 use Rattle.volume.proofs.block_map.Words.{size_passed}
 

@@ -1,6 +1,6 @@
 -- What a lawful state is known to have: its entries, blocks and length keep the limits, its blocks make up its length, and its first protected
 -- block is not past their number.
-use Rattle.std.proofs.Common.{◌≡◌, ℕ, ◌*◌, ◌≤◌, Bool, true, false, not, ◌||◌, ltb, take, drop, refl, arith, ltb-false}
+use Rattle.std.proofs.Common.{◌≡◌, ℕ, ◌*◌, ◌/◌, ◌≤◌, Bool, true, false, not, ◌||◌, ltb, List, length, length-take-le, take, drop, refl, arith, ltb-false}
 use mathlib.Core.Bool.{or-true, or-false}
 use borrow.Author.Tests.{not-false}
 use Rattle.common.specs.Refusals.{any}
@@ -62,6 +62,16 @@ unlawful_is st = go (not (known_edition st.edition)) (has_zero (map_of st)) (siz
     go false false true a b z p = refl
     go false false false a b z false = rw (or-false z)
     go false false false a b z true = rw (or-true z, or-true b) (or-true a)
+
+-- the words of a map of 64 words that has room for the entries: their number, and what a test of them says of the state
+module _ (st : State) (whole : length st.map ≡ 64) (room : st.entries ≤ max_entries) {w : List ℕ} (e : w ≡ map_of st) where
+  pub words_long : length w ≡ 2 * st.entries
+  unfolding map_of
+  words_long = rw (e, length-take-le (2 * st.entries) st.map (omega arith))
+
+  pub words_tested : {t : Bool} → t ≡ (has_zero w || (size_fault (length w / 2) w st.length || ltb (blocks w) st.protected))
+      → t ≡ (has_zero (map_of st) || (size_fault st.entries (map_of st) st.length || ltb (blocks (map_of st)) st.protected))
+  words_tested h = let n : length w / 2 ≡ st.entries = omega (arith, words_long) in rw (n, e) at h
 
 -- the same of a map as it is lent: the first words of an array of 64
 module _ (st : State) (k : Lawful st) where

@@ -1,5 +1,5 @@
 -- `volume::header_writer::write_edition` meets its contract: each refusal is the first row that holds; else the stores make the header, then its checksum.
-use Rattle.std.proofs.Common.{◌≡◌, ℕ, ◌%◌, ◌≤◌, false, List, [], ◌∷◌, ◌++◌, length, take, drop, replicate, sym, ap, ◌∙◌, arith, take_at, rules, le-ltb, lt-ltb, eq-eqb, ne_eqb}
+use Rattle.std.proofs.Common.{◌≡◌, ℕ, ◌%◌, ◌≤◌, false, List, [], ◌∷◌, ◌++◌, length, take, drop, replicate, sym, refl, ap, ◌∙◌, arith, take_at, rules, le-ltb, lt-ltb, eq-eqb, ne_eqb}
 use mathlib.Core.Bool.{or-true}
 use mathlib.Core.Option.{none}
 use lib.Seq.{sets}
@@ -11,7 +11,7 @@ use Rattle.volume.specs.BlockMap.{header_length, size_fault}
 use Rattle.volume.specs.ExtendedHeader.{ext_offset_start}
 use Rattle.volume.specs.Header.{map_start, word_modulus, word_sum}
 use Rattle.volume.specs.HeaderWriter.{checksum, header_bytes, header_back, header_front, header_with, pairs, words_bytes, words_fault, write_refusals, written_answer, wrote}
-use Rattle.volume.proofs.block_map.Words.{Sized, size_passed}
+use Rattle.volume.proofs.block_map.Words.{Sized, size_passed, size_tested}
 use Rattle.volume.proofs.header_writer.Stores.{write_refused, write_done, header_stored, checksum-stored, length_header}
 use Rattle.volume.proofs.header_writer.write_edition.Goals as goal
 use Rattle.volume.proofs.header_writer.write_edition.Goals.{After-store_map, Else-attributes_fault, Else-map-ne0, Else-map_fault, Else-room-header, Start}
@@ -29,7 +29,7 @@ unfolding words_fault
 words_ok c = rw (sym c.has_zero.ensures ∙ c.if-has_zero.false, eq-eqb _ _ c.if-map-ne0.false)
 
 sized : (c : Else-map_fault) → size_fault (pairs (words (goal.at.Else-map_fault c).Else-map-ne0)) (words (goal.at.Else-map_fault c).Else-map-ne0) c.args.len ≡ false
-sized c = rw (sym c.has_zero.ensures ∙ c.if-has_zero.false) at (sym c.map_fault.ensures ∙ c.if-map_fault.false)
+sized c = sym (size_tested c.args.map.now c.args.len (sym c.has_zero.ensures ∙ c.if-has_zero.false) refl c.map_fault.ensures) ∙ c.if-map_fault.false
 
 allowed : (c : Else-attributes_fault) → (let a = c.args in attributes_fault a.edition a.attributes) ≡ false
 allowed c = sym c.attributes_fault.ensures ∙ c.if-attributes_fault.false
@@ -98,8 +98,8 @@ returns-then-map-ne0 c = write_refused _ _ _ _ _ _ _ 106 (simp (ne_eqb _ _ c.if-
 pub returns-then-map_fault : goal.returns-then-map_fault
 unfolding written_answer first_refusal write_refusals
 returns-then-map_fault c =
-    let nonzero = sym c.has_zero.ensures ∙ c.if-has_zero.false in
-    write_refused _ _ _ _ _ _ _ 107 (simp (words_ok (goal.at.returns-then-map_fault c).Else-map-ne0, rw nonzero at (sym c.map_fault.ensures ∙ c.if-map_fault.true)))
+    let size = size_tested c.args.map.now c.args.len (sym c.has_zero.ensures ∙ c.if-has_zero.false) refl c.map_fault.ensures in
+    write_refused _ _ _ _ _ _ _ 107 (simp (words_ok (goal.at.returns-then-map_fault c).Else-map-ne0, sym size ∙ c.if-map_fault.true))
 
 pub returns-then-attributes_fault : goal.returns-then-attributes_fault
 unfolding written_answer first_refusal write_refusals

@@ -1,11 +1,11 @@
--- `volume::header::bytes_refusal` meets its contract: each return is the first row of the table whose test holds.
+-- `volume::header::test_bytes` meets its contract: each return is the first row of the table whose test holds.
 use Rattle.std.proofs.Common.{◌≡◌, ℕ, ◌%◌, true, false, not, eqb, ltb, List, length, take, sym, ◌∙◌, arith, length-take-le, le-ltb, lt-ltb, eq-eqb, ne_eqb}
 use Rattle.common.specs.Refusals.{first_refusal}
 use Rattle.volume.specs.Attributes.{known_edition}
-use Rattle.volume.specs.Header.{header_length_at, header_length_fault, min_header, open_refusals, refusal_of, revision_at, signature, signature_at, word_modulus, word_sum}
+use Rattle.volume.specs.Header.{header_length_at, header_length_fault, min_header, open_refusals, revision_at, signature, signature_at, word_modulus, word_sum}
 use Rattle.volume.proofs.header.Fields.{header_length-passed}
-use Rattle.volume.proofs.header.bytes_refusal.Goals as goal
-use Rattle.volume.proofs.header.bytes_refusal.Goals.{After-edition_fault, After-word_sum, Else-edition_fault, Else-header_length_fault, Else-s-lt-SHORTEST_HEADER, Else-u32_at-ne-SIGNATURE}
+use Rattle.volume.proofs.header.test_bytes.Goals as goal
+use Rattle.volume.proofs.header.test_bytes.Goals.{After-edition_fault, After-word_sum, Else-edition_fault, Else-header_length_fault, Else-s-lt-SHORTEST_HEADER, Else-u32_at-ne-SIGNATURE}
 
 abbrev bytes : Else-s-lt-SHORTEST_HEADER → List ℕ
 bytes c = c.args.s.now
@@ -33,20 +33,20 @@ summed : (c : After-word_sum) → c.word_sum.result ≡ sum c
 summed c = rw c.u16_at-header.ensures at c.word_sum.ensures
 
 pub returns-then-s-lt-SHORTEST_HEADER : goal.returns-then-s-lt-SHORTEST_HEADER
-unfolding refusal_of first_refusal open_refusals
+unfolding first_refusal open_refusals
 returns-then-s-lt-SHORTEST_HEADER c = simp (lt-ltb _ _ c.if-s-lt-SHORTEST_HEADER.true)
 
 pub returns-then-u32_at-ne-SIGNATURE : goal.returns-then-u32_at-ne-SIGNATURE
-unfolding refusal_of first_refusal open_refusals
+unfolding first_refusal open_refusals
 returns-then-u32_at-ne-SIGNATURE c = simp (long (goal.at.returns-then-u32_at-ne-SIGNATURE c).Else-s-lt-SHORTEST_HEADER, ne_eqb (signature_at (bytes (goal.at.returns-then-u32_at-ne-SIGNATURE c).Else-s-lt-SHORTEST_HEADER)) signature (λ e. omega (arith, c.u32_at.ensures)))
 
 pub returns-then-edition_fault : goal.returns-then-edition_fault
-unfolding refusal_of first_refusal open_refusals
+unfolding first_refusal open_refusals
 returns-then-edition_fault c =
     simp (long (goal.at.returns-then-edition_fault c).Else-s-lt-SHORTEST_HEADER, signed (goal.at.returns-then-edition_fault c).Else-u32_at-ne-SIGNATURE, known (goal.at.returns-then-edition_fault c).After-edition_fault ∙ c.if-edition_fault.true)
 
 pub returns-then-header_length_fault : goal.returns-then-header_length_fault
-unfolding refusal_of first_refusal open_refusals
+unfolding first_refusal open_refusals
 returns-then-header_length_fault c =
     simp (
       long (goal.at.returns-then-header_length_fault c).Else-s-lt-SHORTEST_HEADER,
@@ -60,7 +60,7 @@ slice_bounds-word_sum-end c =
     sym (length-take-le _ _ (header_length-passed _ _ (sym c.header_length_fault.ensures ∙ c.if-header_length_fault.false)).2)
 
 pub returns-then-word_sum-ne0 : goal.returns-then-word_sum-ne0
-unfolding refusal_of first_refusal open_refusals
+unfolding first_refusal open_refusals
 returns-then-word_sum-ne0 c =
     simp (
       long (goal.at.returns-then-word_sum-ne0 c).Else-s-lt-SHORTEST_HEADER,
@@ -71,7 +71,7 @@ returns-then-word_sum-ne0 c =
     )
 
 pub returns : goal.returns
-unfolding refusal_of first_refusal open_refusals
+unfolding first_refusal open_refusals
 returns c =
     simp (
       long (goal.at.returns c).Else-s-lt-SHORTEST_HEADER,
