@@ -1,5 +1,5 @@
 -- Private to the code's contracts: what carrying a job on has in hand between its functions. A reader of the calls' contracts needs none of this.
-use Rattle.std.specs.Prelude.{ℕ, zero, suc, ◌+◌, ◌-◌, ◌*◌, ◌≤◌, ◌<◌, ◌≡◌, Bool, true, false, not, cond, ◌||◌, ◌&&◌, List, [], ◌∷◌, eqb, ltb, leb, length, get_or, drop, Result}
+use Rattle.std.specs.Prelude.{ℕ, zero, suc, ◌+◌, ◌-◌, ◌*◌, ◌≤◌, ◌<◌, ◌≡◌, Bool, true, false, not, cond, ◌||◌, ◌&&◌, List, [], ◌∷◌, ltb, leb, length, get_or, drop, Result}
 use Rattle.common.specs.Answers.{refused}
 use Rattle.common.specs.Lists.{edit}
 use Rattle.common.specs.Refusals.{row, first_refusal, unless_refused}

@@ -37,10 +37,7 @@ impl<'a> EraseList for Words<'a> {
     }
 
     fn word(self, i: usize) -> u64 {
-        if i < self.0.len() {
-            return self.0[i];
-        }
-        0
+        self.0.get(i).copied().unwrap_or(0)
     }
 }
 
@@ -52,15 +49,17 @@ impl<'a> EraseList for ByteWords<'a> {
     ghost words = { λ list. list_words list.0.now };
 
     fn len(self) -> usize {
-        self.0.len() / 8
+        let bytes = self.0;
+        bytes.len() / 8
     }
 
     // A part of 8 bytes is lent to the reader, so that no test of the bound is compiled.
     fn word(self, i: usize) -> u64 {
-        if i < self.0.len() / 8 {
+        let bytes = self.0;
+        if i < bytes.len() / 8 {
             let from = 8 * i;
             let end = from + 8;
-            return u64_at(&self.0[from..end], 0);
+            return u64_at(&bytes[from..end], 0);
         }
         0
     }

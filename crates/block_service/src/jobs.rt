@@ -27,11 +27,7 @@ pub enum Progress {
 // (writes are disabled), 2 (a bad list) or 15 (a block of the list is protected). The whole list is verified before a byte
 // is stored, so that a refusal changes none. Costs two passes over the list, a map scan for each run of blocks not named before, and their
 // bytes; from the first pair on that starts before the end of an earlier one, also a mark for each block named, 8 KiB in all.
-pub fn erase_blocks<L: EraseList>(
-    state: &State,
-    volume: &mut [u8],
-    list: L,
-) -> Result<(), Refusal>
+pub fn erase_blocks<L: EraseList>(state: &State, volume: &mut [u8], list: L) -> Result<(), Refusal>
     ensures { result_of (erased_answer result) state.now volume.new [] ≡ step state.now volume.old (erase_blocks (L.words list)) }
 {
     write_refusal(state, volume.len() as u64)?;
@@ -73,15 +69,7 @@ pub fn carry_erase<L: EraseList>(
     write_refusal(state, volume.len() as u64)?;
     let reached = list_reaches(state.block_count(), state.protected, list)?;
     let value = erased_byte(state.attributes);
-    carry_good(
-        state.map_words(),
-        volume,
-        list,
-        value,
-        reached,
-        job,
-        stores,
-    )
+    carry_good(state.map_words(), volume, list, value, reached, job, stores)
 }
 
 // Carries a job of a good list on, which reaches a protected block or not: counts the bytes of the order, judges the job, and stores.

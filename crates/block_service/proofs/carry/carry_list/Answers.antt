@@ -1,10 +1,8 @@
 -- The walk over the front, and where a pair is left after it, the walk over the rest.
-use Prim.Native.Nat.{◌*◌}
 use mathlib.Core.Path.{◌≡◌, sym, ◌∙◌}
 use native.Mathlib.Omega.{arith}
 use borrow.Author.Rules.{rules}
-use lib.ListN.{length}
-use Rattle.block_service.specs.Carry.{filled, Rest, names_first}
+use Rattle.block_service.specs.Carry.{filled}
 use Rattle.block_service.specs.Order.{erase_order, part}
 use Rattle.block_service.proofs.carry.Orders.{order_short}
 use Rattle.block_service.proofs.carry.Walks.{rest_whole, rest_end, rest_bound}

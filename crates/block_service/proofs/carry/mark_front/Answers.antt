@@ -1,6 +1,5 @@
 -- The blocks of the first `j` pairs are marked.
 use native.Mathlib.Omega.{arith}
-use borrow.Author.Rules.{rules}
 use Rattle.block_service.specs.Carry.{names_first}
 use Rattle.block_service.proofs.carry.Walks.{first_marks_at}
 use Rattle.block_service.proofs.carry.mark_front.Goals as goal

@@ -6,7 +6,7 @@ use borrow.Author.Rules.{rules}
 use borrow.Author.Tests.{lt-leb}
 use Rattle.common.specs.Refusals.{first_refusal}
 use Rattle.common.proofs.Refusals.{row_passes, no_row}
-use Rattle.block_service.specs.Blocks.{place, place_refusals}
+use Rattle.block_service.specs.Blocks.{place_refusals}
 use Rattle.block_service.proofs.blocks.Places.{found_start}
 use Rattle.block_service.proofs.blocks.Runs.{found_walk, walk_asks, fits}
 use Rattle.block_service.proofs.carry.run_bytes.Goals as goal

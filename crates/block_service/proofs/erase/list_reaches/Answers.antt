@@ -1,11 +1,10 @@
 -- At the terminator the list is good, and what was reached is all that it reaches; at a pair that does not fit, and at an end without the terminator, it is bad.
-use Prim.Native.Nat.{ℕ, ◌+◌, ◌*◌, ◌/◌, ◌≤◌, ◌<◌}
-use mathlib.Core.Bool.{Bool, true, false, not, ◌&&◌, ◌||◌, or-false}
+use Prim.Native.Nat.{ℕ, ◌+◌, ◌*◌, ◌/◌, ◌<◌}
+use mathlib.Core.Bool.{Bool, true, false, ◌||◌, or-false}
 use mathlib.Core.List.{List}
 use mathlib.Core.Path.{◌≡◌, sym, ◌∙◌}
 use native.Mathlib.Omega.{arith}
 use borrow.Author.Rules.{rules}
-use lib.Dec.{eqb, leb}
 use lib.ListN.{length, get_or, drop}
 use Rattle.std.specs.Prelude.{Ok, Err}
 use Rattle.common.specs.declared.refusal.Refusal.TheVariants as R
@@ -46,9 +45,9 @@ loop-j-preserved g c =
     record {
       good = rw next (good_pair w i _ _ h c.word-first.ensures c.word-count.ensures e _ _ c.pair_fits.ensures c.if-not-pair_fits.false ∙ c.loop-j.invariant.good);
       reach = rw next (elim c.if-protected-first.branch [
-          | then-protected-first x ↦ rw x.reached-is (reach_hit w i _ _ h c.word-first.ensures c.word-count.ensures e _ fits.0 c.loop-j.reached _ c.loop-j.invariant.reach (omega (arith, x.if-protected-first.true)))
-          | else-protected-first x ↦ rw x.reached-is (reach_miss w i _ _ h c.word-first.ensures c.word-count.ensures e _ fits.0 c.loop-j.reached _ c.loop-j.invariant.reach (omega (arith, x.if-protected-first.false)))
-        ]);
+        | then-protected-first x ↦ rw x.reached-is (reach_hit w i _ _ h c.word-first.ensures c.word-count.ensures e _ fits.0 c.loop-j.reached _ c.loop-j.invariant.reach (omega (arith, x.if-protected-first.true)))
+        | else-protected-first x ↦ rw x.reached-is (reach_miss w i _ _ h c.word-first.ensures c.word-count.ensures e _ fits.0 c.loop-j.reached _ c.loop-j.invariant.reach (omega (arith, x.if-protected-first.false)))
+      ]);
     }
 
 -- past the pairs at most one word is left

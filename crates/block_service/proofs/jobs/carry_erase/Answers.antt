@@ -1,6 +1,6 @@
 -- The rows of the lent volume refuse; they pass and the list is bad; or the list is good and `carry_good` does the rest.
 use mathlib.Core.Bool.{not}
-use mathlib.Core.Path.{◌≡◌, sym, ap, ◌∙◌}
+use mathlib.Core.Path.{◌≡◌, sym, ap}
 use borrow.Author.Rules.{rules}
 use Rattle.std.specs.Prelude.{Err}
 use Rattle.volume.specs.State.{map_of}

@@ -1,5 +1,4 @@
 -- The rows of the table, and then all bytes of the order, which are those of the blocks that the list names.
-use mathlib.Core.Bool.{not, true}
 use mathlib.Core.Path.{◌≡◌, sym, ◌∙◌}
 use native.Mathlib.Omega.{arith}
 use borrow.Author.Rules.{rules}

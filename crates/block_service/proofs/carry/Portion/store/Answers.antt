@@ -1,5 +1,5 @@
 -- The bytes from `skip` up to `stop` of the run are those of the portion, and where there is none nothing is stored.
-use Prim.Native.Nat.{ℕ, ◌+◌, ◌-◌, min}
+use Prim.Native.Nat.{◌+◌, ◌-◌, min}
 use mathlib.Core.Path.{◌≡◌}
 use borrow.Author.Rules.{rules}
 use native.Mathlib.Omega.{arith}

@@ -4,7 +4,7 @@ use mathlib.Core.Path.{refl, ◌∙◌}
 use native.Mathlib.Omega.{arith}
 use borrow.Author.Rules.{rules}
 use Rattle.volume.specs.BlockMap.{blocks, bytes}
-use Rattle.block_service.proofs.carry.Walks.{walk_start, walk-run, walk_bound, walk_sized}
+use Rattle.block_service.proofs.carry.Walks.{walk_start, walk-run, walk_bound}
 use Rattle.block_service.proofs.carry.Walk.pair.Goals as goal
 use Rattle.block_service.proofs.carry.Walk.pair.Goals.{At-loop-b}
 

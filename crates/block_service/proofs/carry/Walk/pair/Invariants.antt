@@ -1,5 +1,5 @@
 -- The blocks from the first up to `b` are walked over.
-use Prim.Native.Nat.{◌+◌, ◌-◌, ◌≤◌}
+use Prim.Native.Nat.{◌-◌, ◌≤◌}
 use mathlib.Core.Path.{◌≡◌}
 use Rattle.block_service.specs.Marks.{marked}
 use Rattle.block_service.specs.Carry.{Carried}

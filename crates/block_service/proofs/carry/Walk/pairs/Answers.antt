@@ -1,12 +1,10 @@
 -- What is left from pair j on, from the next byte's number on, is what was left at the start.
-use Prim.Native.Nat.{ℕ, ◌+◌, ◌*◌, ◌≤◌, ◌<◌}
+use Prim.Native.Nat.{◌+◌, ◌*◌, ◌<◌}
 use mathlib.Core.Path.{◌≡◌, sym, ◌∙◌}
-use mathlib.Core.Bool.{true}
 use native.Mathlib.Omega.{arith}
 use borrow.Author.Rules.{rules}
-use lib.ListN.{length, drop}
-use Rattle.volume.specs.BlockMap.{blocks}
-use Rattle.block_service.specs.Erase.{end_of_list, good_list}
+use lib.ListN.{length}
+use Rattle.block_service.specs.Erase.{end_of_list}
 use Rattle.block_service.proofs.erase.Lists.{pair_good, good_end}
 use Rattle.block_service.proofs.carry.Walks.{pair_told, pair_stored, rest_done}
 use Rattle.block_service.proofs.carry.Walk.pairs.Goals as goal
