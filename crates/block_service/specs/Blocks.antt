@@ -1,7 +1,10 @@
 -- Where blocks lie (document 01, Block service): "Blocks are numbered from 0 through the map in order. The first map entry that holds the block settles
 -- its place; nothing after it is consulted." And how many blocks of one length follow one another (document 000, GetBlockSize; document 02, b). A map
 -- is the list of its words, as in BlockMap.
-use Rattle.std.specs.Prelude.{ℕ, ◌+◌, ◌-◌, ◌*◌, ◌/◌, min, Bool, false, cond, ◌&&◌, List, [], ◌∷◌, ◌≡◌, eqb, leb, ltb}
+use Rattle.std.specs.Prelude.{ℕ, ◌+◌, ◌-◌, ◌*◌, ◌/◌, min, Bool, true, false, cond, ◌&&◌, List, [], ◌∷◌, ◌≡◌, eqb, leb, ltb}
+use Rattle.common.specs.Refusals.{Row, row}
+use Rattle.volume.specs.BlockMap.{blocks}
+use Rattle.block_service.specs.declared.blocks.BlockPlace.{BlockPlace}
 use Rattle.block_service.specs.declared.blocks.Place.{Place}
 use Rattle.block_service.specs.declared.blocks.Place.TheVariants.{At, Missing}
 
@@ -17,6 +20,10 @@ place_from (count ∷ len ∷ rest) e s b =
 -- the place of block b
 unfoldable pub place : List ℕ → ℕ → Place
 place map b = place_from map 0 0 b
+
+-- the place that the code answers
+abbrev pub place_of : BlockPlace → Place
+place_of p = At p.entry p.start p.len p.left
 
 -- for the theorems: the place is that of a block of length l
 abbrev pub HasLength : Place → ℕ → Type 0
@@ -65,6 +72,18 @@ block_at (count ∷ []) i = 0
 block_at (count ∷ len ∷ rest) i =
     let later = block_at rest (i - count * len) in
     cond (ltb i (count * len)) (i / len) (count + later)
+
+-- a map's entries up to the one that holds block b, or all of them where none does, have more than n bytes
+unfoldable pub outgrows : List ℕ → ℕ → ℕ → Bool
+outgrows [] b n = false
+outgrows (count ∷ []) b n = false
+outgrows (count ∷ len ∷ rest) b n =
+    let later = outgrows rest (b - count) (n - count * len) in
+    cond (ltb n (count * len)) true (cond (ltb b count) false later)
+
+-- private to the code's contracts: what refuses the place of block b where n bytes of the volume are lent
+abbrev pub place_refusals : List ℕ → ℕ → ℕ → List Row
+place_refusals map b n = row (outgrows map b n) 5 ∷ row (leb (blocks map) b) 2 ∷ []
 
 -- private to the code's contracts (the end of an erase run): the first byte of block b; past the last block, the end of the last
 unfoldable pub first_byte : List ℕ → ℕ → ℕ

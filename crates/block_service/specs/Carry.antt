@@ -1,6 +1,5 @@
 -- Private to the code's contracts: what carrying a job on has in hand between its functions. A reader of the calls' contracts needs none of this.
-use Rattle.std.specs.Prelude.{ℕ, zero, suc, ◌+◌, ◌-◌, ◌*◌, ◌≤◌, ◌<◌, ◌≡◌, Bool, true, false, not, cond, ◌||◌, ◌&&◌, List, [], ◌∷◌, eqb, ltb, leb, length, get_or, drop}
-use Rattle.std.proofs.Math.Option.{Option, none, some}
+use Rattle.std.specs.Prelude.{ℕ, zero, suc, ◌+◌, ◌-◌, ◌*◌, ◌≤◌, ◌<◌, ◌≡◌, Bool, true, false, not, cond, ◌||◌, ◌&&◌, List, [], ◌∷◌, ltb, leb, length, get_or, drop, Result}
 use Rattle.common.specs.Answers.{refused}
 use Rattle.common.specs.Lists.{edit}
 use Rattle.common.specs.Refusals.{row, first_refusal, unless_refused}
@@ -8,7 +7,8 @@ use Rattle.volume.specs.BlockMap.{blocks}
 use Rattle.block_service.specs.Erase.{good_list}
 use Rattle.block_service.specs.Order.{member, firsts, part, named_blocks, bytes_of, erase_order, job_given, finishes}
 use Rattle.block_service.specs.Service.{progress_answer, carry_answer}
-use Rattle.block_service.specs.declared.service.Progress
+use Rattle.block_service.specs.declared.jobs.Progress.{Progress}
+use Rattle.common.specs.declared.refusal.Refusal.{Refusal}
 
 -- the volume v with the value in the bytes whose numbers stand in the list
 unfoldable pub filled : ℕ → List ℕ → List ℕ → List ℕ
@@ -42,13 +42,8 @@ pub record FrontDone (map : List ℕ) (value from to : ℕ) (w v : List ℕ) (at
   pub rest : (n : ℕ) (x : List ℕ) → Rest map value from to at (names_first pairs w) w (2 * pairs) u n x → Rest map value from to 0 (names_first 0 w) w 0 v n x
   pub few : 2 * pairs < 18446744073709551616
 
--- a refusal is one with this number
-unfoldable pub refused_with : ℕ → Option ℕ → Bool
-refused_with number none = false
-refused_with number (some n) = eqb n number
-
 -- what carrying a job of a good list on answers and leaves; the list reaches a protected block or not
-pub record Progressed (map list : List ℕ) (value : ℕ) (reached : Bool) (job stores : ℕ) (v : List ℕ) (r : Progress.Progress) (u : List ℕ) : Type 0 where
+pub record Progressed (map list : List ℕ) (value : ℕ) (reached : Bool) (job stores : ℕ) (v : List ℕ) (r : Result Progress Refusal) (u : List ℕ) : Type 0 where
   pub told : progress_answer r
       ≡ unless_refused (λ number. refused number) (first_refusal (row (not (job_given map list job)) 2 ∷ row reached 15 ∷ []))
       (carry_answer (finishes map list job stores) (job + stores))

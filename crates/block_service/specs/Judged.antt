@@ -7,17 +7,8 @@ use Rattle.common.specs.Lists.{edit}
 use Rattle.common.specs.Refusals.{Row, row, first_refusal, unless_refused}
 use Rattle.volume.specs.BlockMap.{blocks}
 use Rattle.block_service.specs.Access.{count_moved, changed_byte, write_change}
-use Rattle.block_service.specs.Blocks.{place, start_of, length_of}
+use Rattle.block_service.specs.Blocks.{place, start_of, length_of, outgrows}
 use Rattle.block_service.specs.Service.{move_answer}
-use Rattle.block_service.specs.declared.service.Reach
-
--- a map's entries up to the one that holds block b, or all of them where none does, have more than n bytes
-unfoldable pub outgrows : List ℕ → ℕ → ℕ → Bool
-outgrows [] b n = false
-outgrows (count ∷ []) b n = false
-outgrows (count ∷ len ∷ rest) b n =
-    let later = outgrows rest (b - count) (n - count * len) in
-    cond (ltb n (count * len)) true (cond (ltb b count) false later)
 
 -- the refusals of such a write to a volume of n lent bytes, first that applies
 unfoldable pub judged_refusals : List ℕ → ℕ → ℕ → ℕ → List Row
@@ -43,10 +34,3 @@ judged_write attributes protected words volume block offset new =
     let after = edit (λ i old. changed_byte attributes (write_change (start_of found + offset) count new i) old) 0 volume in
     unless_refused (λ number. stored (refused number) volume) (first_refusal (judged_refusals words protected (length volume) block))
     (stored (move_answer count (length new)) after)
-
--- private to the code's contracts: where its block lies, or what refuses it
-unfoldable pub judged_reach : List ℕ → ℕ → ℕ → ℕ → Reach.Reach
-judged_reach words protected n block =
-    let found = place words block in
-    unless_refused (λ number. Reach.TheVariants.Refused number) (first_refusal (judged_refusals words protected n block))
-    (Reach.TheVariants.At (start_of found) (length_of found))

@@ -1,11 +1,13 @@
 -- The block service (document 01, and document 02, g and j): what each of the ten calls answers, and what it leaves in the state, in the volume and in the
 -- reader's buffer. A call is decided from the state, the length of the lent volume and its arguments alone; only the effect that was
 -- decided on touches bytes.
-use Rattle.std.specs.Prelude.{ℕ, ◌+◌, Bool, not, cond, List, [], ◌∷◌, ◌++◌, eqb, leb, ltb, length, take, drop}
+use Rattle.std.specs.Prelude.{Result as Outcome, Ok, Err, ℕ, ◌+◌, Bool, not, cond, List, [], ◌∷◌, ◌++◌, eqb, leb, ltb, length, take, drop}
 use Rattle.std.proofs.Math.Option.{Option, none, some}
 use Rattle.common.specs.Answers.{Answer, refused, success, short}
 use Rattle.common.specs.Lists.{edit}
+use Rattle.common.specs.Refusal.{number}
 use Rattle.common.specs.Refusals.{Row, row, first_refusal, unless_refused}
+use Rattle.common.specs.declared.refusal.Refusal.{Refusal}
 use Rattle.volume.specs.Attributes.{flag, read_status, write_status, memory_mapped}
 use Rattle.volume.specs.BlockMap.{blocks}
 use Rattle.volume.specs.State.{state_with, map_of, unlawful}
@@ -15,53 +17,46 @@ use Rattle.block_service.specs.Blocks.{place, start_of, length_of, consecutive_b
 use Rattle.block_service.specs.Erase.{good_list, reaches, erase_change}
 use Rattle.block_service.specs.Order.{job_given, carry_change, finishes}
 use Rattle.settings.specs.Settings.{setting_refusals}
-use Rattle.block_service.specs.declared.check.Check
-use Rattle.block_service.specs.declared.service.Settings
-use Rattle.block_service.specs.declared.service.Address
-use Rattle.block_service.specs.declared.service.BlockSize
+use Rattle.block_service.specs.declared.service.BlockSize.{BlockSize}
 use Rattle.block_service.specs.declared.service.Moved
-use Rattle.block_service.specs.declared.service.Erased
-use Rattle.block_service.specs.declared.service.Protection
-use Rattle.block_service.specs.declared.service.Reach
-use Rattle.block_service.specs.declared.service.Accepted
-use Rattle.block_service.specs.declared.service.Progress
+use Rattle.block_service.specs.declared.jobs.Progress
 
--- the answer that each case of the calls' enums stands for
-unfoldable pub settings_answer : Settings.Settings → Answer
-settings_answer (Settings.TheVariants.Success a) = success (a ∷ [])
-settings_answer (Settings.TheVariants.Refused n) = refused n
+-- the answer that each case of the calls' results stands for
+unfoldable pub settings_answer : Outcome ℕ Refusal → Answer
+settings_answer (Ok a) = success (a ∷ [])
+settings_answer (Err e) = refused (number e)
 
-unfoldable pub address_answer : Address.Address → Answer
-address_answer (Address.TheVariants.Success a) = success (a ∷ [])
-address_answer (Address.TheVariants.Refused n) = refused n
+unfoldable pub address_answer : Outcome ℕ Refusal → Answer
+address_answer (Ok a) = success (a ∷ [])
+address_answer (Err e) = refused (number e)
 
-unfoldable pub block_size_answer : BlockSize.BlockSize → Answer
-block_size_answer (BlockSize.TheVariants.Success len count) = success (len ∷ count ∷ [])
-block_size_answer (BlockSize.TheVariants.Refused n) = refused n
+unfoldable pub block_size_answer : Outcome BlockSize Refusal → Answer
+block_size_answer (Ok size) = success (size.length ∷ size.count ∷ [])
+block_size_answer (Err e) = refused (number e)
 
-unfoldable pub moved_answer : Moved.Moved → Answer
-moved_answer (Moved.TheVariants.Success n) = success (n ∷ [])
-moved_answer (Moved.TheVariants.Short n) = short (n ∷ [])
-moved_answer (Moved.TheVariants.Refused n) = refused n
+unfoldable pub moved_answer : Outcome Moved.Moved Refusal → Answer
+moved_answer (Ok (Moved.TheVariants.All n)) = success (n ∷ [])
+moved_answer (Ok (Moved.TheVariants.Short n)) = short (n ∷ [])
+moved_answer (Err e) = refused (number e)
 
-unfoldable pub erased_answer : Erased.Erased → Answer
-erased_answer Erased.TheVariants.Success = success []
-erased_answer (Erased.TheVariants.Refused n) = refused n
+unfoldable pub erased_answer : Outcome Unit Refusal → Answer
+erased_answer (Ok done) = success []
+erased_answer (Err e) = refused (number e)
 
-unfoldable pub protection_answer : Protection.Protection → Answer
-protection_answer Protection.TheVariants.Success = success []
-protection_answer (Protection.TheVariants.Refused n) = refused n
+unfoldable pub protection_answer : Outcome Unit Refusal → Answer
+protection_answer (Ok done) = success []
+protection_answer (Err e) = refused (number e)
 
 -- 02, g: acceptance "answers a job"
-unfoldable pub accepted_answer : Accepted.Accepted → Answer
-accepted_answer (Accepted.TheVariants.Job job) = success (job ∷ [])
-accepted_answer (Accepted.TheVariants.Refused n) = refused n
+unfoldable pub accepted_answer : Outcome ℕ Refusal → Answer
+accepted_answer (Ok job) = success (job ∷ [])
+accepted_answer (Err e) = refused (number e)
 
 -- 02, g: carrying on "answers finished exactly when nothing is left then, otherwise the job as it now stands": success, or short with the job
-unfoldable pub progress_answer : Progress.Progress → Answer
-progress_answer Progress.TheVariants.Finished = success []
-progress_answer (Progress.TheVariants.Job job) = short (job ∷ [])
-progress_answer (Progress.TheVariants.Refused n) = refused n
+unfoldable pub progress_answer : Outcome Progress.Progress Refusal → Answer
+progress_answer (Ok Progress.TheVariants.Finished) = success []
+progress_answer (Ok (Progress.TheVariants.Job job)) = short (job ∷ [])
+progress_answer (Err e) = refused (number e)
 
 -- the ten calls with their arguments: a read comes with its buffer, a write with its data, an erase with its list. `protect_blocks` sets the first
 -- protected block (document 02, j: the mark). Document 02, g: `accept_erase` accepts an erase list, `carry_erase list job n` carries a job of that list on by n stores
@@ -191,16 +186,3 @@ buffer_of (carry_erase list job stores) = []
 -- a call on a state and a volume
 unfoldable pub step : State → List ℕ → Call → Result
 step st volume call = perform st volume (buffer_of call) (decide st (length volume) call)
-
--- the refusal, if any, that a test of some rows of a table gives
-unfoldable pub refusal_of : Check.Check → Option ℕ
-refusal_of Check.TheVariants.Allowed = none
-refusal_of (Check.TheVariants.Refused n) = some n
-
--- private to the code's contracts: where the block of a read or a write lies, or what refuses it; blocks from the limit on are kept from the call
-unfoldable pub reach_of : State → ℕ → ℕ → ℕ → ℕ → Reach.Reach
-reach_of st n status limit block =
-    let found = place (map_of st) block in
-    unless_refused (λ number. Reach.TheVariants.Refused number)
-    (first_refusal (lent_refusals st n status ++ (row (leb (blocks (map_of st)) block) 2 ∷ row (leb limit block) 15 ∷ [])))
-    (Reach.TheVariants.At (start_of found) (length_of found))

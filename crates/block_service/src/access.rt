@@ -1,23 +1,16 @@
 // Moving bytes between a volume and a caller's buffer.
-ghost use Rattle.std.specs.Prelude.{◌++◌, ◌≡◌, ◌+◌, ◌≤◌, ◌<◌, length, get_or, take, drop};
+ghost use Rattle.std.specs.Prelude.{◌++◌, ◌≡◌, ℕ, ◌+◌, ◌≤◌, ◌<◌, length, get_or, take, drop};
 ghost use Rattle.common.specs.Lists.{edit};
 ghost use Rattle.block_service.specs.Access.{count_moved, written_byte, write_change, changed_byte};
 
-use moves::move_bytes;
 use volume::attributes::{ERASE_POLARITY, STICKY_WRITE, is_set};
 
 // The number of bytes that are moved between a block of length `len`, from an offset, and n bytes of data.
+#[tactic(auto, unfolding(crate::specs::Access::count_moved))]
 pub(crate) fn count_moved(len: usize, offset: usize, n: usize) -> usize
     ensures { result ≡ count_moved len offset n }
 {
-    if len <= offset {
-        return 0;
-    }
-    let room = len - offset;
-    if n < room {
-        return n;
-    }
-    room
+    n.min(len.saturating_sub(offset))
 }
 
 // Copies `count` bytes of the volume, from an offset of the block at `start`, to the start of the buffer.
@@ -31,7 +24,7 @@ pub(crate) fn load(volume: &[u8], start: usize, offset: usize, buffer: &mut [u8]
     }
     let from = start + offset;
     let to = from + count;
-    move_bytes(&volume[from..to], buffer);
+    buffer[..count].copy_from_slice(&volume[from..to]);
 }
 
 // Stores the first `count` bytes of `new` in the volume, from an offset of the block at `start`, by the
@@ -56,40 +49,29 @@ pub(crate) fn store(
     write_part(attributes, &mut volume[at..end], &new[..count]);
 }
 
-// Writes `new` over the part: a plain move, or byte by byte where the write is sticky.
+// Writes `new` over the part: a plain copy, or where the write is sticky old AND new where the erase value is 1, old OR new where it
+// is 0. The attributes are tested once, before the loop.
 fn write_part(attributes: u32, part: &mut [u8], new: &[u8])
     requires { length part.old ≡ length new.now }
     ensures { part.new ≡ edit (λ i old. written_byte attributes old (get_or new.now i 0)) 0 part.old }
 {
-    if is_set(attributes, STICKY_WRITE) {
-        merge_part(attributes, part, new);
-        return;
-    }
-    move_bytes(new, part);
-}
-
-// The same byte by byte. The attributes are the same at every byte, and what is compiled tests them once, before a loop of AND or one of OR.
-fn merge_part(attributes: u32, part: &mut [u8], new: &[u8])
-    requires { length part.old ≡ length new.now }
-    ensures { part.new ≡ edit (λ i old. written_byte attributes old (get_or new.now i 0)) 0 part.old }
-{
-    let mut i = 0;
-    while i < part.len() {
-        part[i] = written_byte(attributes, part[i], new[i]);
-        i += 1;
+    if !is_set(attributes, STICKY_WRITE) {
+        part.copy_from_slice(new);
+    } else if is_set(attributes, ERASE_POLARITY) {
+        merge(part, new, |old, new| old & new);
+    } else {
+        merge(part, new, |old, new| old | new);
     }
 }
 
-// A byte written over an old one: the new byte, or with sticky write old AND new where the erase value is 1, old OR new
-// where it is 0.
-fn written_byte(attributes: u32, old: u8, new: u8) -> u8
-    ensures { result ≡ written_byte attributes old new }
+// Merges each byte of `new` into the part's byte at its place.
+fn merge<F: Fn(u8, u8) -> u8>(part: &mut [u8], new: &[u8], rule: F)
+    requires same_length { length part.old ≡ length new.now }
+    requires callable { F.IsAlwaysCallable rule }
+    ensures kept_length { length part.new ≡ length part.old }
+    ensures merged { (i : ℕ) → i < length part.old → F.post rule (get_or part.old i 0) (get_or new.now i 0) (get_or part.new i 0) }
 {
-    if is_set(attributes, STICKY_WRITE) {
-        if is_set(attributes, ERASE_POLARITY) {
-            return old & new;
-        }
-        return old | new;
+    for (i, old) in part.iter_mut().enumerate() {
+        *old = rule(*old, new[i]);
     }
-    new
 }

@@ -1,8 +1,11 @@
 // Where a volume's blocks lie.
-ghost use Rattle.std.specs.Prelude.{◌≡◌, ◌+◌, ◌*◌, ◌≤◌, ◌<◌, ◌∷◌, length, take, drop, get_or};
-ghost use Rattle.volume.specs.BlockMap.{blocks, bytes, max_entries, max_length, max_blocks};
-ghost use Rattle.block_service.specs.Blocks.{place, equal_blocks, first_byte};
+ghost use Rattle.std.specs.Prelude.{◌≡◌, ◌+◌, ◌*◌, ◌≤◌, ◌<◌, ◌∷◌, length, drop, get_or, IfOk};
+ghost use Rattle.common.specs.Refusal.{refusal_of};
+ghost use Rattle.common.specs.Refusals.{first_refusal};
+ghost use Rattle.volume.specs.BlockMap.{blocks, bytes, max_length, max_blocks};
+ghost use Rattle.block_service.specs.Blocks.{place, place_of, place_refusals, equal_blocks, first_byte};
 
+use common::Refusal;
 use numbers::wide;
 
 // The place of a block: its map entry, the byte of the volume at which it starts, its length, and the
@@ -18,15 +21,48 @@ pub enum Place {
     Missing,
 }
 
-// The place of a block of a volume with so many entries of a state's map.
-pub(crate) fn locate(entries: usize, map: &[u32; 64], block: u64) -> Place
-    requires entries_le_max_entries { entries ≤ max_entries }
-    requires map_bound { bytes (take (2 * entries) map.now) ≤ max_length }
-    ensures { result ≡ place (take (2 * entries) map.now) block }
+// The place of a block: its map entry, the byte of the volume at which it starts, its length, and the
+// number of blocks from it to the end of its entry, itself included.
+#[derive(Clone, Copy, Debug, PartialEq, Eq)]
+pub struct BlockPlace {
+    pub entry: usize,
+    pub start: usize,
+    pub len: usize,
+    pub left: usize,
+}
+
+// The place of a block in a map of a volume of which so many bytes are lent: the first entry that holds it settles it. Refused with 5
+// where the entries up to the block's, or all where none holds it, have more bytes than are lent, and with 2 where none holds it. No
+// sum passes the lent bytes.
+#[tactic(auto, using(crate::proofs::blocks::Runs::turns), unfolding(crate::specs::Blocks::place, common::specs::Refusals::first_refusal))]
+pub(crate) fn find_place(words: &[u32], lent: usize, block: u64) -> Result<BlockPlace, Refusal>
+    ensures refused { refusal_of result ≡ first_refusal (place_refusals words.now block lent) }
+    ensures found { IfOk result (λ found. place_of found ≡ place words.now block) }
+    ensures within { IfOk result (λ found. found.start + found.len ≤ lent) }
 {
-    let words: &[u32] = map;
-    let end = 2 * entries;
-    find_block(&words[..end], block)
+    let mut start = 0;
+    let mut rest = block as usize;
+    'scan: {
+        for entry in 0..words.len() / 2 {
+            let count = words[2 * entry] as usize;
+            let len = words[2 * entry + 1] as usize;
+            let size = count * len;
+            if lent - start < size {
+                break 'scan Err(Refusal::BufferTooSmall);
+            }
+            if rest < count {
+                break 'scan Ok(BlockPlace {
+                    entry,
+                    start: start + rest * len,
+                    len,
+                    left: count - rest,
+                });
+            }
+            start += size;
+            rest -= count;
+        }
+        Err(Refusal::InvalidParameter)
+    }
 }
 
 // The place of a block in a map's words: the first entry that holds it settles it.
@@ -62,44 +98,41 @@ pub(crate) fn find_block(words: &[u32], block: u64) -> Place
 
 // The number of blocks of this length with which the entries after an entry begin: those of the entries before the first
 // of another length.
+#[tactic(auto, using(crate::proofs::blocks::Runs::equal_turn, crate::proofs::blocks::Runs::equal_stops, crate::proofs::blocks::Runs::equal_done, crate::proofs::blocks::Runs::equal_within))]
 pub(crate) fn equal_blocks(words: &[u32], entry: usize, len: usize) -> usize
     requires in_bounds { 2 * entry + 1 < length words.now }
     requires words_bound { blocks words.now ≤ max_blocks }
     ensures { result ≡ equal_blocks (drop (2 * (entry + 1)) words.now) len }
 {
-    let entries = words.len() / 2;
-    let mut count: usize = 0;
-    let mut i = entry + 1;
-    while i < entries {
-        if wide(words[2 * i + 1]) as usize != len {
+    let mut count = 0;
+    for i in entry + 1..words.len() / 2 {
+        if words[2 * i + 1] as usize != len {
             break;
         }
-        count += wide(words[2 * i]) as usize;
-        i += 1;
+        count += words[2 * i] as usize;
     }
     count
 }
 
 // The end of a run of blocks that starts at byte `start` in an entry: `left` blocks of the entry are left,
 // and the run goes on through the entries after it.
+#[tactic(auto, using(crate::proofs::blocks::Runs::ends))]
 pub(crate) fn run_end(words: &[u32], entry: usize, start: usize, left: usize, count: usize) -> usize
     requires in_bounds { 2 * entry + 1 < length words.now }
     requires count_bound { count ≤ left + blocks (drop (2 * (entry + 1)) words.now) }
     requires count_bound_2 { start + first_byte (left ∷ get_or words.now (2 * entry + 1) 0 ∷ drop (2 * (entry + 1)) words.now) count ≤ max_length }
     ensures { result ≡ start + first_byte (left ∷ get_or words.now (2 * entry + 1) 0 ∷ drop (2 * (entry + 1)) words.now) count }
 {
-    let mut i = entry;
-    let mut at = start;
-    let mut here = left;
-    let mut rest = count;
-    loop {
-        let len = wide(words[2 * i + 1]) as usize;
-        if rest <= here {
-            break at + rest * len;
+    let here = count.min(left);
+    let mut end = start + here * words[2 * entry + 1] as usize;
+    let mut rest = count - here;
+    for next in entry + 1..words.len() / 2 {
+        if rest == 0 {
+            break;
         }
-        at += here * len;
-        rest -= here;
-        i += 1;
-        here = wide(words[2 * i]) as usize;
+        let n = rest.min(words[2 * next] as usize);
+        end += n * words[2 * next + 1] as usize;
+        rest -= n;
     }
+    end
 }

@@ -9,18 +9,17 @@
 mod access;
 pub mod blocks;
 pub mod carry;
-mod check;
 pub mod erase;
+pub mod jobs;
 pub mod judged;
+mod lent;
 mod marks;
 pub mod service;
 
-pub use crate::check::Check;
-pub use crate::erase::END_OF_LIST;
+pub use crate::erase::{ByteWords, END_OF_LIST, EraseList, Words};
+pub use crate::jobs::{Progress, accept_erase, carry_erase, erase_blocks};
 pub use crate::judged::{write_judged, write_refusal};
 pub use crate::service::{
-    Accepted, Address, BlockSize, Erased, Moved, NewProtection, NewSettings, Progress, Protection,
-    Settings, accept_byte_list, accept_erase, carry_byte_list, carry_erase, erase_blocks,
-    erase_byte_list, get_attributes, get_block_size, get_physical_address, protect_blocks, read,
+    BlockSize, Moved, get_attributes, get_block_size, get_physical_address, protect_blocks, read,
     set_attributes, write,
 };

@@ -99,13 +99,15 @@ module _ (a old new : ℕ) where
   unfolding written_byte
   written_or e p = rw (e, p)
 
--- a write that is not sticky leaves the data
-pub write_plain : (a : ℕ) (part new after : List ℕ) → length part ≡ length new → flag a sticky_write ≡ false → after ≡ moved new part
+-- a part of which each byte is written by the rule
+pub written_each : (a : ℕ) (part new after : List ℕ) → length after ≡ length part
+    → ((i : ℕ) → i < length part → get_or after i 0 ≡ written_byte a (get_or part i 0) (get_or new i 0))
     → after ≡ edit (λ i x. written_byte a x (get_or new i 0)) 0 part
-write_plain a part new after l e p =
+written_each a part new after l h =
     let f : ℕ → ℕ → ℕ = λ i x. written_byte a x (get_or new i 0) in
-    p ∙ moved_same new part (sym l) ∙ ext_get_or 0 new (edit f 0 part) (sym (length-edit f 0 part ∙ l))
-    (λ i b. sym (get_or-edit f 0 part i (omega arith) ∙ written_plain a (get_or part i 0) (get_or new (0 + i) 0) e ∙ ap (λ (k : ℕ). get_or new k 0) (zero-add i)))
+    ext_get_or 0 after (edit f 0 part) (l ∙ sym (length-edit f 0 part))
+    (λ i b.
+    h i (omega arith) ∙ sym (get_or-edit f 0 part i (omega arith) ∙ ap (λ (k : ℕ). written_byte a (get_or part i 0) (get_or new k 0)) (zero-add i)))
 
 -- a byte written over an erased one is the byte itself
 pub written_erased : (a x : ℕ) → x < 256 → written_byte a (erased_byte a) x ≡ x

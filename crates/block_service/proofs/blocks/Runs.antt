@@ -3,15 +3,15 @@ use Prim.Native.Nat.{ℕ, zero, suc, ◌+◌, ◌-◌, ◌*◌, ◌≤◌, ◌<�
 use mathlib.Core.Path.{◌≡◌, refl, sym, ap, ◌∙◌}
 use mathlib.Core.Bool.{Bool, true, false, cond}
 use mathlib.Core.List.{List, [], ◌∷◌}
-use native.Mathlib.Nat.{add_assoc, zero-add, mul-le-mul_right, add-mul, sub-zero}
+use native.Mathlib.Nat.{add_assoc, zero-add, mul-le-mul_right, add-mul, one-mul, sub-zero}
 use native.Mathlib.Omega.{arith}
-use borrow.Author.Tests.{lt-ltb, le-ltb, ltb-true, ltb-false, eq-eqb, ne_eqb, eqb-true, eqb-false}
-use lib.Dec.{eqb, ltb}
+use borrow.Author.Tests.{lt-ltb, le-ltb, le-leb, lt-leb, ltb-true, ltb-false, leb-true, leb-false, eq-eqb, ne_eqb, eqb-true, eqb-false}
+use lib.Dec.{eqb, leb, ltb}
 use lib.ListN.{length, get_or, take, drop, length-drop}
 use Rattle.common.proofs.Lists.{drop_two}
 use Rattle.common.proofs.Refusals.{neither}
 use Rattle.volume.specs.BlockMap.{blocks, bytes, has_zero, max_length, max_blocks}
-use Rattle.block_service.specs.Blocks.{place_from, place, HasLength, equal_blocks, consecutive_blocks, first_byte}
+use Rattle.block_service.specs.Blocks.{place_from, place, HasLength, equal_blocks, consecutive_blocks, outgrows, first_byte}
 use Rattle.block_service.specs.declared.blocks.Place.{Place}
 use Rattle.block_service.specs.declared.blocks.Place.TheVariants.{At, Missing}
 use Rattle.volume.proofs.block_map.Words.{blocks_entry, bytes_entry}
@@ -227,6 +227,19 @@ walk_entry m e s b e' s' l' r' h = go (found m e s b e' s' l' r' h)
         let g = go f in
         rw z (omega arith, g.1)
 
+-- a block is past the first entry's exactly where the one so many blocks on is past the others'
+pub past_count : (c k b : ℕ) → c ≤ b → leb (c + k) b ≡ leb k (b - c)
+past_count c k b h = go (leb k (b - c)) refl
+  where
+    go : (t : Bool) → leb k (b - c) ≡ t → leb (c + k) b ≡ t
+    go true e = let p : k ≤ b - c = leb-true _ _ e in le-leb (c + k) b (omega arith)
+    go false e = let p : b - c < k = leb-false _ _ e in lt-leb (c + k) b (omega arith)
+
+-- a walk's blocks: those left in its entry, and those after it
+pub walk_first : (r l : ℕ) (rest : List ℕ) (n k : ℕ) → k ≡ min n r → first_byte (r ∷ l ∷ rest) n ≡ k * l + first_byte rest (n - k)
+unfolding first_byte
+walk_first r l rest n k e = let z : n - k ≡ n - r = omega arith in rw (z, e)
+
 -- a search over a map's words, at entry i: its words are c and l
 module _ (w : List ℕ) (i : ℕ) where
   -- what holds where no entry is left
@@ -242,9 +255,17 @@ module _ (w : List ℕ) (i : ℕ) where
   unfolding place_from
   find_end s b = no_entry (λ m. Missing ≡ place_from m i s b) refl (λ x. refl)
 
+  pub outgrows_end : (b n : ℕ) → length w ≤ 2 * i + 1 → outgrows (drop (2 * i) w) b n ≡ false
+  unfolding outgrows
+  outgrows_end b n = no_entry (λ m. outgrows m b n ≡ false) refl (λ x. refl)
+
   pub count_end : length w ≤ 2 * i + 1 → blocks (drop (2 * i) w) ≡ 0
   unfolding blocks
   count_end = no_entry (λ m. blocks m ≡ 0) refl (λ x. refl)
+
+  pub first_end : (b : ℕ) → length w ≤ 2 * i + 1 → first_byte (drop (2 * i) w) b ≡ 0
+  unfolding first_byte
+  first_end b = no_entry (λ m. first_byte m b ≡ 0) refl (λ x. refl)
 
   pub equal_end : (len : ℕ) → length w ≤ 2 * i + 1 → equal_blocks (drop (2 * i) w) len ≡ 0
   unfolding equal_blocks
@@ -263,6 +284,23 @@ module _ (w : List ℕ) (i : ℕ) where
     pub entry_bytes : bytes (drop (2 * i) w) ≡ c * l + bytes (drop (2 * (i + 1)) w)
     entry_bytes = rw (ec, el) (bytes_entry w i h)
 
+    -- it passes the n bytes that are lent, or it holds the block, or the search goes on with the next
+    pub outgrows_past : (b n : ℕ) → n < c * l → outgrows (drop (2 * i) w) b n ≡ true
+    unfolding outgrows
+    outgrows_past b n p = rw (entry_words_lem, lt-ltb n (c * l) p)
+
+    pub outgrows_hit : (b n : ℕ) → c * l ≤ n → b < c → outgrows (drop (2 * i) w) b n ≡ false
+    unfolding outgrows
+    outgrows_hit b n p q = rw (entry_words_lem, le-ltb n (c * l) p, lt-ltb b c q)
+
+    pub outgrows_next : (b n : ℕ) → c * l ≤ n → c ≤ b → outgrows (drop (2 * (i + 1)) w) (b - c) (n - c * l) ≡ outgrows (drop (2 * i) w) b n
+    unfolding outgrows
+    outgrows_next b n p q = rw (entry_words_lem, le-ltb n (c * l) p, le-ltb b c q)
+
+    -- so many blocks from its first on: those in it, and those after it
+    pub first_next : (b k : ℕ) → k ≡ min b c → first_byte (drop (2 * i) w) b ≡ k * l + first_byte (drop (2 * (i + 1)) w) (b - k)
+    first_next b k e = rw entry_words_lem (walk_first c l (drop (2 * (i + 1)) w) b k e)
+
     -- the entry has the length of a run of equal blocks, and the run goes on with the next; or it has another, and the run stops
     pub equal_on : (len : ℕ) → l ≡ len → equal_blocks (drop (2 * i) w) len ≡ c + equal_blocks (drop (2 * (i + 1)) w) len
     equal_on len e = rw entry_words_lem (equal_here c l (drop (2 * (i + 1)) w) len e)
@@ -272,6 +310,27 @@ module _ (w : List ℕ) (i : ℕ) where
 
     pub entry_blocks : blocks (drop (2 * i) w) ≡ c + blocks (drop (2 * (i + 1)) w)
     entry_blocks = rw ec (blocks_entry w i h)
+
+    pub blocks_hit : (b : ℕ) → b < c → leb (blocks (drop (2 * i) w)) b ≡ false
+    blocks_hit b p = lt-leb _ _ (omega (arith, entry_blocks))
+
+    pub blocks_next : (b : ℕ) → c ≤ b → leb (blocks (drop (2 * (i + 1)) w)) (b - c) ≡ leb (blocks (drop (2 * i) w)) b
+    blocks_next b p = sym (rw entry_blocks (past_count c (blocks (drop (2 * (i + 1)) w)) b p))
+
+-- entries that do not pass the lent bytes in all do not up to any block
+pub fits : (m : List ℕ) (b n : ℕ) → bytes m ≤ n → outgrows m b n ≡ false
+unfolding outgrows bytes
+fits [] b n h = refl
+fits (c ∷ []) b n h = refl
+fits (c ∷ l ∷ rest) b n h = rw (le-ltb n (c * l) (omega arith)) (go (ltb b c) (fits rest (b - c) (n - c * l) (omega arith)))
+  where
+    go : (t : Bool) → outgrows rest (b - c) (n - c * l) ≡ false → cond t false (outgrows rest (b - c) (n - c * l)) ≡ false
+    go true ih = refl
+    go false ih = ih
+
+-- a block of an entry ends where its blocks do, or before
+pub one_more : (b k c : ℕ) → b < c → b * k + k ≤ c * k
+one_more b k c h = rw (add-mul b 1 k, one-mul k) at (mul-le-mul_right {m = b + 1} {n = c} k (omega arith))
 
 -- a walk from a block on: the blocks left in its entry are enough, or the walk goes on with the next entry
 pub walk_stop : (r l l' : ℕ) (rest : List ℕ) (n at : ℕ) → l ≡ l' → n ≤ r → at + n * l ≡ at + first_byte (r ∷ l' ∷ rest) n
@@ -307,6 +366,61 @@ blocks_split w (suc i) = let z : 2 * suc i ≡ suc (suc (2 * i)) = omega arith i
 
 pub equal_within : (w : List ℕ) (i len : ℕ) → equal_blocks (drop (2 * i) w) len ≤ blocks w
 equal_within w i len = omega (arith, equal_le (drop (2 * i) w) len, blocks_split w i)
+
+-- the turns of the code that searches, at an entry: it passes the lent bytes, it holds the block, or the search goes on; and no entry is left
+module _ (w : List ℕ) (i b : ℕ) where
+  pub turn_past : (n : ℕ) → 2 * i + 1 < length w → n < get_or w (2 * i) 0 * get_or w (2 * i + 1) 0 → outgrows (drop (2 * i) w) b n ≡ true
+  turn_past n h p = outgrows_past w i _ _ h refl refl b n p
+
+  pub turn_in : (n : ℕ) → 2 * i + 1 < length w → get_or w (2 * i) 0 * get_or w (2 * i + 1) 0 ≤ n → b < get_or w (2 * i) 0 → outgrows (drop (2 * i) w) b n ≡ false
+  turn_in n h p q = outgrows_hit w i _ _ h refl refl b n p q
+
+  pub turn_on : (n m k : ℕ) → 2 * i + 1 < length w → get_or w (2 * i) 0 * get_or w (2 * i + 1) 0 ≤ n → get_or w (2 * i) 0 ≤ b
+      → m ≡ n - get_or w (2 * i) 0 * get_or w (2 * i + 1) 0 → k ≡ b - get_or w (2 * i) 0 → outgrows (drop (2 * (i + 1)) w) k m ≡ outgrows (drop (2 * i) w) b n
+  turn_on n m k h p q em ek = rw (em, ek) (outgrows_next w i _ _ h refl refl b n p q)
+
+  pub turn_out : (n : ℕ) → length w ≤ 2 * i + 1 → outgrows (drop (2 * i) w) b n ≡ false
+  turn_out n h = outgrows_end w i b n h
+
+  pub turn_there : 2 * i + 1 < length w → b < get_or w (2 * i) 0 → leb (blocks (drop (2 * i) w)) b ≡ false
+  turn_there h q = blocks_hit w i _ _ h refl refl b q
+
+  pub turn_further : (k : ℕ) → 2 * i + 1 < length w → get_or w (2 * i) 0 ≤ b → k ≡ b - get_or w (2 * i) 0 → leb (blocks (drop (2 * (i + 1)) w)) k ≡ leb (blocks (drop (2 * i) w)) b
+  turn_further k h q ek = rw ek (blocks_next w i _ _ h refl refl b q)
+
+  pub turn_nowhere : length w ≤ 2 * i + 1 → leb (blocks (drop (2 * i) w)) b ≡ true
+  turn_nowhere h = le-leb _ _ (omega (arith, count_end w i h))
+
+  pub turn_hit : (s : ℕ) → 2 * i + 1 < length w → b < get_or w (2 * i) 0
+      → At i (s + b * get_or w (2 * i + 1) 0) (get_or w (2 * i + 1) 0) (get_or w (2 * i) 0 - b) ≡ place_from (drop (2 * i) w) i s b
+  turn_hit s h q = find_hit w i _ _ h refl refl s b q
+
+  pub turn_next : (s t k : ℕ) → 2 * i + 1 < length w → get_or w (2 * i) 0 ≤ b → t ≡ s + get_or w (2 * i) 0 * get_or w (2 * i + 1) 0 → k ≡ b - get_or w (2 * i) 0
+      → place_from (drop (2 * (i + 1)) w) (i + 1) t k ≡ place_from (drop (2 * i) w) i s b
+  turn_next s t k h q et ek = rw (et, ek) (find_next w i _ _ h refl refl s b q)
+
+pub ruleset turns = (turn_past, turn_in, turn_on, turn_out, turn_there, turn_further, turn_nowhere, turn_hit, turn_next)
+
+-- the turns of the code that looks for a run's end
+pub end_next : (w : List ℕ) (i b k : ℕ) → 2 * i + 1 < length w → k ≡ min b (get_or w (2 * i) 0)
+    → first_byte (drop (2 * i) w) b ≡ k * get_or w (2 * i + 1) 0 + first_byte (drop (2 * (i + 1)) w) (b - k)
+end_next w i b k h e = first_next w i _ _ h refl refl b k e
+
+pub end_here : (m : List ℕ) (b : ℕ) → b ≡ 0 → first_byte m b ≡ 0
+end_here m b e = rw (e, first_byte_zero m)
+
+pub ruleset ends = (walk_first, end_next, end_here, first_end)
+
+-- the turns of the code that counts them: an entry of the length, one of another, and no entry
+pub equal_turn : (w : List ℕ) (i len : ℕ) → 2 * i + 1 < length w → get_or w (2 * i + 1) 0 ≡ len
+    → equal_blocks (drop (2 * i) w) len ≡ get_or w (2 * i) 0 + equal_blocks (drop (2 * (i + 1)) w) len
+equal_turn w i len h e = equal_on w i _ _ h refl refl len e
+
+pub equal_stops : (w : List ℕ) (i len : ℕ) → 2 * i + 1 < length w → (get_or w (2 * i + 1) 0 ≡ len → ⊥) → equal_blocks (drop (2 * i) w) len ≡ 0
+equal_stops w i len h d = equal_stop w i _ _ h refl refl len d
+
+pub equal_done : (w : List ℕ) (i len : ℕ) → length w ≤ 2 * i + 1 → equal_blocks (drop (2 * i) w) len ≡ 0
+equal_done w i len h = equal_end w i len h
 
 -- the same from the map's start: what a walk from a block that was found needs, and where it ends
 module _ (m : List ℕ) (b e s l r : ℕ) (h : place m b ≡ At e s l r) where

@@ -19,10 +19,12 @@ use Rattle.volume.specs.declared.state.State.{State}
 use Rattle.block_service.specs.Access.{keep, erase, erased_byte, changed_byte}
 use Rattle.block_service.specs.Blocks.{in_block, block_at}
 use Rattle.block_service.specs.Erase.{good_list, names, reaches}
-use Rattle.block_service.specs.Carry.{filled, refused_with, Progressed}
+use Rattle.block_service.specs.Carry.{filled, Progressed}
 use Rattle.block_service.specs.Order.{member, part, erase_order, job_given, carry_change, finishes}
 use Rattle.block_service.specs.Service.{carry_erase, lent_refusals, refusals, effect, Result, result_of, perform, buffer_of, step, progress_answer, carry_answer}
-use Rattle.block_service.specs.declared.service.Progress.{Progress}
+use Rattle.std.specs.Prelude.{Result as Outcome, Ok, Err}
+use Rattle.common.specs.declared.refusal.Refusal.{Refusal}
+use Rattle.block_service.specs.declared.jobs.Progress.{Progress}
 use Rattle.block_service.proofs.blocks.Places.{in_some_block, before_first_byte, first_byte_end}
 use Rattle.block_service.proofs.carry.OrderLists.{part-member, part_none}
 use Rattle.block_service.proofs.carry.Fills.{filled_none}
@@ -51,21 +53,6 @@ carry_other st v list job n e i k =
         absurd (k (block_at (map_of st) i) t (in_some_block (map_of st) i w))
     pick false q = refl
 
--- ---- the rows of a carrying on, as the code judges them
-
--- of what is said of a list that is bad or not and reaches a protected block or not: whether it is bad, and where it is not, whether it reaches one
-pub judged_bad : (bad reached : Bool) (o : Option ℕ) → o ≡ first_refusal (row bad 2 ∷ row reached 15 ∷ []) → refused_with 2 o ≡ bad
-unfolding first_refusal refused_with
-judged_bad true reached o e = rw e
-judged_bad false true o e = rw e
-judged_bad false false o e = rw e
-
-pub judged_reached : (bad reached : Bool) (o : Option ℕ) → bad ≡ false → o ≡ first_refusal (row bad 2 ∷ row reached 15 ∷ []) → refused_with 15 o ≡ reached
-unfolding first_refusal refused_with
-judged_reached true reached o z e = absurd (true≢false z)
-judged_reached false true o z e = rw e
-judged_reached false false o z e = rw e
-
 -- ---- what is answered of a good list
 
 module _ (m w : List ℕ) (value job stores all : ℕ) (v u : List ℕ) (t : Bool) (et : t ≡ (eqb job 0 || ltb job all)) (ea : all ≡ length (erase_order m w))
@@ -77,16 +64,16 @@ module _ (m w : List ℕ) (value job stores all : ℕ) (v u : List ℕ) (t : Boo
   unfolding job_given
   given = rw (et, ea)
 
-  pub progress_2 : t ≡ false → (reached : Bool) → Progressed m w value reached job stores v (Progress.Refused 2) u
+  pub progress_2 : t ≡ false → (reached : Bool) → Progressed m w value reached job stores v (Err Refusal.InvalidParameter) u
   unfolding first_refusal progress_answer
   progress_2 z reached = record { told = rw (given, z); left = rw (given, z) kept }
 
-  pub progress_15 : t ≡ true → (reached : Bool) → reached ≡ true → Progressed m w value reached job stores v (Progress.Refused 15) u
+  pub progress_15 : t ≡ true → (reached : Bool) → reached ≡ true → Progressed m w value reached job stores v (Err Refusal.AccessDenied) u
   unfolding first_refusal progress_answer
   progress_15 z reached r = record { told = rw (given, z, r); left = rw (given, z, r) kept }
 
   pub progress_done : t ≡ true → (reached : Bool) → reached ≡ false → all ≤ job + stores → (x : List ℕ) → x ≡ filled value (part job all (erase_order m w)) u
-      → Progressed m w value reached job stores v Progress.Finished x
+      → Progressed m w value reached job stores v (Ok Progress.Finished) x
   unfolding first_refusal progress_answer carry_answer finishes part
   progress_done z reached r h x ex =
       let long : length (erase_order m w) ≤ job + stores = omega arith in
@@ -94,7 +81,7 @@ module _ (m w : List ℕ) (value job stores all : ℕ) (v u : List ℕ) (t : Boo
       record { told = rw (given, z, r, le-leb _ _ long); left = rw (given, z, r) (ex ∙ rw (same, kept)) }
 
   pub progress_job : t ≡ true → (reached : Bool) → reached ≡ false → job + stores < all → (x : List ℕ) → x ≡ filled value (part job (job + stores) (erase_order m w)) u
-      → Progressed m w value reached job stores v (Progress.Job (job + stores)) x
+      → Progressed m w value reached job stores v (Ok (Progress.Job (job + stores))) x
   unfolding first_refusal progress_answer carry_answer finishes
   progress_job z reached r h x ex =
       let short : job + stores < length (erase_order m w) = omega arith in
@@ -107,7 +94,7 @@ unfolding refusals
 carry_rows st n w job k lent good = lent_last st n write_status _ _ lent (ap not good)
 
 -- by what the rows say, a refusal or the portion
-finish : (st : State) (v w : List ℕ) (job n : ℕ) (r : Progress) (u : List ℕ) (o : Option ℕ) → first_refusal (refusals st (length v) (carry_erase w job n)) ≡ o
+finish : (st : State) (v w : List ℕ) (job n : ℕ) (r : Outcome Progress Refusal) (u : List ℕ) (o : Option ℕ) → first_refusal (refusals st (length v) (carry_erase w job n)) ≡ o
     → progress_answer r ≡ unless_refused (λ k. refused k) o (carry_answer (finishes (map_of st) w job n) (job + n))
     → u ≡ unless_refused (λ k. v) o (filled (erased_byte st.attributes) (part job (job + n) (erase_order (map_of st) w)) v)
     → result_of (progress_answer r) st u [] ≡ step st v (carry_erase w job n)
@@ -128,7 +115,7 @@ unfolding refusals buffer_of
 carry_bad st v w job n e bad = refused-step st v (carry_erase w job n) 2 (lent_2 st (length v) write_status _ _ e bad)
 
 -- so a carrying on whose first rows pass does what is said of a good list
-pub progress_step : (st : State) (v w : List ℕ) (job n : ℕ) (r : Progress) (u : List ℕ) → first_refusal (lent_refusals st (length v) write_status) ≡ none
+pub progress_step : (st : State) (v w : List ℕ) (job n : ℕ) (r : Outcome Progress Refusal) (u : List ℕ) → first_refusal (lent_refusals st (length v) write_status) ≡ none
     → good_list (blocks (map_of st)) w ≡ true → Progressed (map_of st) w (erased_byte st.attributes) (reaches st.protected w) job n v r u
     → result_of (progress_answer r) st u [] ≡ step st v (carry_erase w job n)
 progress_step st v w job n r u lent good p = go (first_refusal rest) refl
@@ -153,7 +140,7 @@ given-le job all t e z = go (eqb job 0) refl (ltb job all) refl (sym e ∙ z)
     go false p false q h = absurd (true≢false (sym h))
 
 -- the same of an equal value and an equal test
-pub progressed_as : (m w : List ℕ) (value x : ℕ) (reached y : Bool) (job n : ℕ) (v : List ℕ) (r : Progress) (u : List ℕ) → value ≡ x → reached ≡ y
+pub progressed_as : (m w : List ℕ) (value x : ℕ) (reached y : Bool) (job n : ℕ) (v : List ℕ) (r : Outcome Progress Refusal) (u : List ℕ) → value ≡ x → reached ≡ y
     → Progressed m w value reached job n v r u → Progressed m w x y job n v r u
 progressed_as m w value x reached y job n v r u p q h =
     subst (λ (z : Bool). Progressed m w x z job n v r u) q (subst (λ (z : ℕ). Progressed m w z reached job n v r u) p h)

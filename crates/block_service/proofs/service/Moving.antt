@@ -25,16 +25,7 @@ use Rattle.block_service.specs.Blocks.{place, start_of, length_of, in_block}
 use Rattle.block_service.specs.Service.{move_answer, read, write, refusals, effect, Result, result_of, perform, buffer_of, step}
 use Rattle.block_service.specs.declared.blocks.Place.TheVariants.{At}
 use Rattle.block_service.proofs.blocks.Places.{in_block_of_bounds, found_start, found_end, found_within, place_found, place_there}
-use Rattle.block_service.proofs.service.Steps.{allowed_step, allowed_answers, lent_last, lent_passes, passed, passed_read, passed_rows, passed_write, reach_rows, read_step, write_step}
-
--- a block that a read or a write may start in lies in the lent volume
-pub reach_within : (st : State) (n status limit b : ℕ) → first_refusal (reach_rows st n status limit b) ≡ none
-    → start_of (place (map_of st) b) + length_of (place (map_of st) b) ≤ n
-unfolding start_of length_of
-reach_within st n status limit b e =
-    let p = (passed_rows st n status _ _ e).0 in
-    let t = place_there (map_of st) b (leb-false _ _ p.last) in
-    rw t.4 (omega (arith, found_within (map_of st) b t.0 t.1 t.2 t.3 t.4, p.lawful.total, p.long))
+use Rattle.block_service.proofs.service.Steps.{allowed_step, allowed_answers, lent_last, lent_passes, passed, passed_read, passed_write, read_step, write_step}
 
 -- after a write that was not refused, in the block at s of length l
 module _ (st : State) (v : List ℕ) (b o : ℕ) (new : List ℕ) (h : (n : ℕ) → (step st v (write b o new)).answer ≡ refused n → ⊥)

@@ -12,21 +12,20 @@ use Rattle.common.specs.Answers.{refused, success, short, Answer}
 use Rattle.common.specs.Lists.{edit}
 use Rattle.common.specs.Refusals.{row, first_refusal, unless_refused, Row}
 use Rattle.common.proofs.Edit.{edit-same}
-use Rattle.common.proofs.Refusals.{row-passed, front_passed, then_passed, then_refused, row_applies, row_passes, no_row, idle_row}
+use Rattle.common.proofs.Refusals.{row-passed, front_passed, then_passed, then_refused, row_applies, row_passes, no_row}
 use Rattle.volume.specs.Attributes.{flag, read_status, write_status, memory_mapped}
-use Rattle.volume.specs.BlockMap.{blocks, max_blocks}
+use Rattle.volume.specs.BlockMap.{blocks, bytes}
 use Rattle.volume.specs.State.{map_of, unlawful}
 use Rattle.volume.specs.declared.state.State.{State}
 use Rattle.volume.proofs.state.Lawful.{Lawful, lawful}
 use Rattle.block_service.specs.Access.{count_moved, erased_byte, keep, erase, write_change, changed_byte}
-use Rattle.block_service.specs.Blocks.{place, start_of, length_of, block_at, consecutive_blocks}
+use Rattle.block_service.specs.Blocks.{place, start_of, length_of, block_at, consecutive_blocks, place_refusals}
 use Rattle.block_service.specs.Erase.{good_list, names, reaches, erase_change}
 use Rattle.block_service.specs.Service.{Call, get_attributes, set_attributes, get_physical_address, get_block_size, read, write, erase_blocks, protect_blocks, accept_erase, carry_erase, lent_refusals, refusals}
-use Rattle.block_service.specs.Service.{effect, move_answer, carry_answer, Result, result_of, perform, buffer_of, step, decide, reach_of}
+use Rattle.block_service.specs.Service.{reply, effect, move_answer, carry_answer, Result, result_of, perform, buffer_of, step, decide}
 use Rattle.block_service.specs.Order.{job_given}
 use Rattle.block_service.specs.declared.blocks.Place.TheVariants.{At}
-use Rattle.block_service.specs.declared.service.Reach.TheVariants as Reach
-use Rattle.block_service.specs.declared.service.Reach.TheVariants.{Refused}
+use Rattle.block_service.proofs.blocks.Runs.{fits}
 use Rattle.block_service.proofs.erase.Lists.{names-reaches}
 
 -- a refused call answers its number and leaves everything as it was
@@ -112,50 +111,42 @@ module _ (st : State) (n status : ℕ) (t : Bool) (rest : List Row) (e : first_r
   pub lent_last : t ≡ false → first_refusal (lent_refusals st n status ++ (row t 2 ∷ rest)) ≡ first_refusal rest
   lent_last h = lent_then st n status _ e ∙ row_passes _ _ _ _ h refl
 
--- where the block of a read or a write lies, by its table
-module _ (st : State) (n status limit block : ℕ) where
-  abbrev pub reach_rows : List Row
-  reach_rows = lent_refusals st n status ++ (row (leb (blocks (map_of st)) block) 2 ∷ row (leb limit block) 15 ∷ [])
-
-  -- refused by it, or found
-  pub refused_reach : (m : ℕ) → first_refusal reach_rows ≡ some m → Refused m ≡ reach_of st n status limit block
-  unfolding reach_of
-  refused_reach m e = rw e
-
-  pub found_reach : (e s l r : ℕ) → first_refusal reach_rows ≡ none → place (map_of st) block ≡ At e s l r → Reach.At s l ≡ reach_of st n status limit block
-  unfolding reach_of start_of length_of
-  found_reach e s l r p h = rw (p, h)
-
-  -- and the other way
-  pub reach_refused : (m : ℕ) → reach_of st n status limit block ≡ Refused m → first_refusal reach_rows ≡ some m
-  unfolding reach_of
-  reach_refused m = go (first_refusal reach_rows)
-    where
-      go : (o : Option ℕ) → unless_refused (λ k. Refused k) o (Reach.At (start_of (place (map_of st) block)) (length_of (place (map_of st) block))) ≡ Refused m → o ≡ some m
-      go none e = absurd (let z : ◌≡◌ {A = ℕ} 0 1 = cc in omega arith)
-      go (some k) e = let q : k ≡ m = cc in ap (λ (x : ℕ). some x) q
-
-  pub reach_at : (s l : ℕ) → reach_of st n status limit block ≡ Reach.At s l
-      → (first_refusal reach_rows ≡ none) × (s ≡ start_of (place (map_of st) block)) × (l ≡ length_of (place (map_of st) block))
-  unfolding reach_of
-  reach_at s l = go (first_refusal reach_rows)
-    where
-      go : (o : Option ℕ) → unless_refused (λ k. Refused k) o (Reach.At (start_of (place (map_of st) block)) (length_of (place (map_of st) block))) ≡ Reach.At s l
-          → (o ≡ none) × (s ≡ start_of (place (map_of st) block)) × (l ≡ length_of (place (map_of st) block))
-      go none e = (refl, cc, cc)
-      go (some k) e = absurd (let z : ◌≡◌ {A = ℕ} 0 1 = cc in omega arith)
-
--- a read is refused as by this table with a limit past every block
-pub free_read : (st : State) (n limit b o : ℕ) (buffer : List ℕ) → max_blocks ≤ limit → first_refusal (reach_rows st n read_status limit b) ≡ first_refusal (refusals st n (read b o buffer))
-unfolding refusals
-free_read st n limit b o buffer past = go (first_refusal (lent_refusals st n read_status)) refl
+-- what the code's test of 111 says: the call is refused with it, or the state is lawful
+pub tested_unlawful : (st : State) (v : List ℕ) (c : Call) (m : ℕ) → some m ≡ first_refusal (row (unlawful st) 111 ∷ [])
+    → result_of (refused m) st v (buffer_of c) ≡ step st v c
+unfolding first_refusal
+tested_unlawful st v c m = go (unlawful st) refl
   where
-    go : (x : Option ℕ) → first_refusal (lent_refusals st n read_status) ≡ x
-        → first_refusal (reach_rows st n read_status limit b) ≡ first_refusal (lent_refusals st n read_status ++ (row (leb (blocks (map_of st)) b) 2 ∷ []))
-    go (some m) e = lent_first st n read_status _ m e ∙ sym (lent_first st n read_status _ m e)
-    go none e =
-        let few = (begun st n read_status e).lawful.blocks in
-        idle_row (lent_refusals st n read_status) _ _ 2 15 (λ h. lt-leb limit b (omega (arith, leb-false (blocks (map_of st)) b h)))
+    go : (t : Bool) → unlawful st ≡ t → some m ≡ cond t (some 111) none → result_of (refused m) st v (buffer_of c) ≡ step st v c
+    go true u e = let q : m ≡ 111 = cc in rw q (unlawful-step st v c u)
+    go false u e = absurd (let z : ◌≡◌ {A = ℕ} 0 1 = cc in omega arith)
+
+pub tested_lawful : (st : State) → none ≡ first_refusal (row (unlawful st) 111 ∷ []) → unlawful st ≡ false
+tested_lawful st e = (row-passed (row (unlawful st) 111) [] (sym e)).0
+
+-- what the code's search for a block says where the map's entries do not pass the n lent bytes: there is no such block, or it was found
+module _ (map : List ℕ) (n b : ℕ) (h : bytes map ≤ n) where
+  pub place_row : first_refusal (place_refusals map b n) ≡ first_refusal (row (leb (blocks map) b) 2 ∷ [])
+  place_row = row_passes _ _ _ _ (fits map b n h) refl
+
+  pub place_there_lem : none ≡ first_refusal (place_refusals map b n) → leb (blocks map) b ≡ false
+  place_there_lem e = (row-passed _ _ (row-passed _ _ (sym e)).1).0
+
+-- the bytes of a lawful state's map are those of the volume, which is lent whole where a call that is lent it goes on
+pub lent_fits : (st : State) (n status : ℕ) → first_refusal (lent_refusals st n status) ≡ none → bytes (map_of st) ≤ n
+lent_fits st n status e = let p = begun st n status e in omega (arith, p.lawful.total, p.long)
+
+-- a read that the search for its block refuses, and one that it does not
+pub read_lost : (st : State) (v : List ℕ) (b o : ℕ) (buffer : List ℕ) (m : ℕ) → first_refusal (lent_refusals st (length v) read_status) ≡ none
+    → some m ≡ first_refusal (place_refusals (map_of st) b (length v)) → result_of (refused m) st v buffer ≡ step st v (read b o buffer)
+unfolding refusals buffer_of
+read_lost st v b o buffer m e h =
+    refused-step st v (read b o buffer) m (lent_then st (length v) read_status _ e ∙ sym (place_row (map_of st) (length v) b (lent_fits st _ _ e)) ∙ sym h)
+
+pub read_found : (st : State) (n b o : ℕ) (buffer : List ℕ) → first_refusal (lent_refusals st n read_status) ≡ none
+    → none ≡ first_refusal (place_refusals (map_of st) b n) → first_refusal (refusals st n (read b o buffer)) ≡ none
+unfolding refusals
+read_found st n b o buffer e h = lent_then st n read_status _ e ∙ row_passes _ _ _ _ (place_there_lem (map_of st) n b (lent_fits st _ _ e) h) no_row
 
 -- a read, a write, an erase and a block size that are not refused, from what the code has in hand
 pub read_step : (st : State) (v : List ℕ) (b o : ℕ) (buffer : List ℕ) (s l k : ℕ) (a : Answer) (after : List ℕ)
@@ -197,6 +188,16 @@ erase_step st v list x after n ex ea =
         pick : (t : Bool) → cond t (erased_byte st.attributes) old ≡ changed_byte st.attributes (cond t erase keep) old
         pick true = refl
         pick false = refl
+
+-- a write leaves the state, and has no buffer
+pub write_leaves : (st : State) (v : List ℕ) (b o : ℕ) (new : List ℕ) → (let r = step st v (write b o new) in result_of r.answer st r.volume [] ≡ r)
+unfolding step decide perform effect buffer_of
+write_leaves st v b o new = go (first_refusal (refusals st (length v) (write b o new)))
+  where
+    go : (x : Option ℕ)
+        → (let r = perform st v [] (unless_refused (λ n. reply (refused n)) x (effect st (write b o new))) in result_of r.answer st r.volume [] ≡ r)
+    go none = refl
+    go (some n) = refl
 
 -- a move answers success or short
 pub move_answers : (k n m : ℕ) → move_answer k n ≡ refused m → ⊥

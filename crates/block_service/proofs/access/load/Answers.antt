@@ -1,9 +1,7 @@
 -- `block_service::access::load` meets its contract.
 use Prim.Native.Nat.{◌+◌, ◌≤◌}
 use native.Mathlib.Omega.{arith}
-use borrow.Author.Rules.{rules}
 use lib.ListN.{length}
-use Rattle.block_service.proofs.access.Moves.{read_back}
 use Rattle.block_service.proofs.access.load.Goals as goal
 use Rattle.block_service.proofs.access.load.Goals.{Else-count-eq0}
 
@@ -17,10 +15,5 @@ overflow_add-from c = omega (arith, room c)
 pub overflow_add-to : goal.overflow_add-to
 overflow_add-to c = omega (arith, room c)
 
-pub slice_bounds-move_bytes-end : goal.slice_bounds-move_bytes-end
-slice_bounds-move_bytes-end c = omega (arith, room c)
-
-pub returns : goal.returns
-returns c =
-    let a = c.args in
-    read_back (a.start + a.offset) a.count _ _ _ (room (goal.at.returns c).Else-count-eq0) (search rules) c.move_bytes.ensures
+pub slice_bounds-copy_from_slice-end : goal.slice_bounds-copy_from_slice-end
+slice_bounds-copy_from_slice-end c = omega (arith, room c)

@@ -1,35 +1,30 @@
 -- `block_service::judged::write_judged` meets its contract: the rows of its table, and then the bytes moved.
-use Prim.Native.Nat.{◌+◌, ◌≤◌}
-use mathlib.Core.Option.{none}
-use mathlib.Core.Path.{◌≡◌, sym, ◌∙◌}
-use native.Mathlib.Omega.{arith}
-use lib.ListN.{length}
-use Rattle.common.specs.Refusals.{first_refusal}
-use Rattle.block_service.specs.Blocks.{place, start_of, length_of}
-use Rattle.block_service.specs.Judged.{judged_refusals}
+use Rattle.std.proofs.Common.{◌≡◌, ◌≤◌, ◌<◌, ◌+◌, Err, length, sym, ap, arith, rules}
+use Rattle.block_service.specs.Blocks.{start_of, length_of}
 use Rattle.block_service.specs.Service.{moved_answer}
 use Rattle.block_service.proofs.access.Moves.{moves}
-use Rattle.block_service.proofs.judged.Reaches.{judged_refused, judged_at, judged_no, judged_yes}
+use Rattle.block_service.proofs.judged.Reaches.{judged_lost, judged_protected, judged_passes, judged_no, judged_yes}
 use Rattle.block_service.proofs.judged.write_judged.Goals as goal
-use Rattle.block_service.proofs.judged.write_judged.Goals.{In-At}
 
-found : (c : In-At)
-    → (first_refusal (judged_refusals c.args.words.now c.args.protected (length c.args.volume.now) c.args.block) ≡ none)
-    × (c.in-At.start ≡ start_of (place c.args.words.now c.args.block))
-    × (c.in-At.len ≡ length_of (place c.args.words.now c.args.block))
-    × (c.in-At.start + c.in-At.len ≤ length c.args.volume.now)
-found c = judged_at _ _ _ _ _ _ (sym c.reach_judged-reached.ensures ∙ c.in-At.is)
-
-pub store-requires : goal.store-requires
-store-requires c =
-    let m = moves _ _ _ _ _ _ c.count_moved-count.ensures (found (goal.at.store-requires c).In-At).3 in
-    record { count_in_bounds = omega (arith, m.0); count_in_bounds_2 = λ p. omega (arith, m.1 (omega arith)) }
-
-pub returns-in-Refused : goal.returns-in-Refused
+pub returns-in_err-place : goal.returns-in_err-place
 unfolding moved_answer
-returns-in-Refused c = judged_no _ _ _ _ _ _ _ _ (judged_refused _ _ _ _ _ (sym c.reach_judged-reached.ensures ∙ c.in-Refused.is))
+returns-in_err-place c =
+    let r : c.from_residual.result ≡ Err c.in_err-place.field-0.0 = search rules in
+    rw r (judged_no _ _ _ _ _ _ _ _ (judged_lost _ _ _ _ _ c.in_err-place.ensures.refused))
 
-pub returns-in-At : goal.returns-in-At
-returns-in-At c =
-    let k = found (goal.at.returns-in-At c).In-At in
-    judged_yes _ _ _ _ _ _ _ _ _ _ _ _ k.0 k.1 k.2 c.count_moved-count.ensures c.move_answer.ensures c.store.ensures
+pub returns-then-protected-block : goal.returns-then-protected-block
+unfolding moved_answer
+returns-then-protected-block c = judged_no _ _ _ _ _ _ _ 15 (judged_protected _ _ _ _ c.in_ok-place.ensures.refused c.if-protected-block.true)
+
+pub store-requires-clause-count_in_bounds : goal.store-requires-clause-count_in_bounds
+store-requires-clause-count_in_bounds c = (moves _ _ _ _ _ _ c.count_moved-count.ensures c.in_ok-place.ensures.within).0
+
+pub store-requires-clause-count_in_bounds_2 : goal.store-requires-clause-count_in_bounds_2
+store-requires-clause-count_in_bounds_2 c = (moves _ _ _ _ _ _ c.count_moved-count.ensures c.in_ok-place.ensures.within).1
+
+pub returns : goal.returns
+unfolding start_of length_of
+returns c =
+    let at = c.in_ok-place.ensures.found in
+    judged_yes _ _ _ _ _ _ _ _ _ _ _ _ (judged_passes _ _ _ _ c.in_ok-place.ensures.refused c.if-protected-block.false)
+    (ap start_of at) (ap length_of at) c.count_moved-count.ensures c.move_answer.ensures c.store.ensures
