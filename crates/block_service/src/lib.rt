@@ -19,7 +19,7 @@ pub mod service;
 
 pub use crate::check::Check;
 pub use crate::erase::END_OF_LIST;
-pub use crate::jobs::{Progress};
+pub use crate::jobs::Progress;
 pub use crate::judged::{write_judged, write_refusal};
 pub use crate::service::{
     BlockSize, Moved, get_attributes, get_block_size, get_physical_address, protect_blocks, read,

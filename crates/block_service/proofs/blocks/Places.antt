@@ -147,7 +147,7 @@ missing (At e s l r) = false
 missing Missing = true
 
 -- a block is missing exactly where the number of blocks does not pass its number
-place_missing : (m : List ℕ) (e s b : ℕ) → missing (place_from m e s b) ≡ leb (blocks m) b
+pub place_missing : (m : List ℕ) (e s b : ℕ) → missing (place_from m e s b) ≡ leb (blocks m) b
 unfolding place_from missing blocks
 place_missing [] e s b = sym (le-leb 0 b (omega arith))
 place_missing (c ∷ []) e s b = sym (le-leb 0 b (omega arith))
