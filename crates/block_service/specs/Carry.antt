@@ -1,6 +1,5 @@
 -- Private to the code's contracts: what carrying a job on has in hand between its functions. A reader of the calls' contracts needs none of this.
-use Rattle.std.specs.Prelude.{ℕ, zero, suc, ◌+◌, ◌-◌, ◌*◌, ◌≤◌, ◌<◌, ◌≡◌, Bool, true, false, not, cond, ◌||◌, ◌&&◌, List, [], ◌∷◌, eqb, ltb, leb, length, get_or, drop, Result}
-use Rattle.std.proofs.Math.Option.{Option, none, some}
+use Rattle.std.specs.Prelude.{ℕ, zero, suc, ◌+◌, ◌-◌, ◌*◌, ◌≤◌, ◌<◌, ◌≡◌, Bool, true, false, not, cond, ◌||◌, ◌&&◌, List, [], ◌∷◌, ltb, leb, length, get_or, drop, Result}
 use Rattle.common.specs.Answers.{refused}
 use Rattle.common.specs.Lists.{edit}
 use Rattle.common.specs.Refusals.{row, first_refusal, unless_refused}
@@ -42,11 +41,6 @@ pub record FrontDone (map : List ℕ) (value from to : ℕ) (w v : List ℕ) (at
   pub fits : (j : ℕ) → j < pairs → get_or w (2 * j) 0 + get_or w (2 * j + 1) 0 ≤ blocks map
   pub rest : (n : ℕ) (x : List ℕ) → Rest map value from to at (names_first pairs w) w (2 * pairs) u n x → Rest map value from to 0 (names_first 0 w) w 0 v n x
   pub few : 2 * pairs < 18446744073709551616
-
--- a refusal is one with this number
-unfoldable pub refused_with : ℕ → Option ℕ → Bool
-refused_with number none = false
-refused_with number (some n) = eqb n number
 
 -- what carrying a job of a good list on answers and leaves; the list reaches a protected block or not
 pub record Progressed (map list : List ℕ) (value : ℕ) (reached : Bool) (job stores : ℕ) (v : List ℕ) (r : Result Progress Refusal) (u : List ℕ) : Type 0 where

@@ -1,6 +1,8 @@
 -- Erasing (document 01, "Erase"). The list is a list of 64-bit words: "pairs of first block and count, ended by 2^64 - 1 where a first
 -- block would stand. Words after that are ignored."
-use Rattle.std.specs.Prelude.{ℕ, zero, suc, ◌+◌, ◌/◌, Bool, false, not, cond, ◌&&◌, ◌||◌, List, [], ◌∷◌, ◌++◌, eqb, leb, ltb, length}
+use Rattle.std.specs.Prelude.{ℕ, zero, suc, ◌+◌, ◌/◌, Bool, false, not, cond, ◌&&◌, ◌||◌, List, [], ◌∷◌, eqb, leb, ltb, length, Result, Ok, Err}
+use Rattle.common.specs.declared.refusal.Refusal.{Refusal}
+use Rattle.common.specs.declared.refusal.Refusal.TheVariants as R
 use Rattle.numbers.specs.LittleEndian.{le}
 use Rattle.block_service.specs.Access.{ByteChange, keep, erase}
 use Rattle.block_service.specs.Blocks.{block_at}
@@ -46,6 +48,6 @@ longs_at (suc k) s at = le 8 s at ∷ longs_at k s (at + 8)
 unfoldable pub list_words : List ℕ → List ℕ
 list_words s = longs_at (length s / 8) s 0
 
--- private to the code's contracts: an erase list of which the first words come as words and those after them as bytes
-unfoldable pub whole_list : List ℕ → List ℕ → List ℕ
-whole_list list tail = list ++ list_words tail
+-- private to the code's contracts: what is said of a list that is good or not and that names a protected block or not
+abbrev pub judged_list : Bool → Bool → Result Bool Refusal
+judged_list good reached = cond good (Ok reached) (Err R.InvalidParameter)

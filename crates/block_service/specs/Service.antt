@@ -17,7 +17,6 @@ use Rattle.block_service.specs.Blocks.{place, start_of, length_of, consecutive_b
 use Rattle.block_service.specs.Erase.{good_list, reaches, erase_change}
 use Rattle.block_service.specs.Order.{job_given, carry_change, finishes}
 use Rattle.settings.specs.Settings.{setting_refusals}
-use Rattle.block_service.specs.declared.check.Check
 use Rattle.block_service.specs.declared.service.BlockSize.{BlockSize}
 use Rattle.block_service.specs.declared.service.Moved
 use Rattle.block_service.specs.declared.jobs.Progress
@@ -187,8 +186,3 @@ buffer_of (carry_erase list job stores) = []
 -- a call on a state and a volume
 unfoldable pub step : State → List ℕ → Call → Result
 step st volume call = perform st volume (buffer_of call) (decide st (length volume) call)
-
--- the refusal, if any, that a test of some rows of a table gives
-unfoldable pub refusal_of : Check.Check → Option ℕ
-refusal_of Check.TheVariants.Allowed = none
-refusal_of (Check.TheVariants.Refused n) = some n

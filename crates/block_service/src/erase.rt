@@ -1,86 +1,111 @@
-// Erasing the blocks that a list names. The list comes in two parts, so that one of words and one of bytes are each read where
-// they stand: the words of `list`, and after them those of the bytes `tail`, eight to a word.
-ghost use Rattle.std.specs.Prelude.{not, ◌&&◌, [], ◌∷◌, ◌≡◌, ◌+◌, eqb, leb, length, get_or};
+// Erase lists, and the byte of an erase.
+ghost use Rattle.std.specs.Prelude.{not, ◌&&◌, [], ◌∷◌, List, ℕ, ◌≡◌, ◌+◌, eqb, leb, length, get_or};
+ghost use Rattle.common.specs.Refusal.{refusal_of};
 ghost use Rattle.common.specs.Refusals.{first_refusal, row};
 ghost use Rattle.block_service.specs.Access.{erased_byte};
-ghost use Rattle.block_service.specs.Erase.{good_list, reaches, whole_list};
-ghost use Rattle.block_service.specs.Service.{refusal_of};
-ghost use Rattle.common.specs.Lists.{edit};
+ghost use Rattle.block_service.specs.Erase.{good_list, reaches, list_words, judged_list};
 
-use crate::check::Check;
+use common::Refusal;
 use numbers::u64_at;
 use volume::attributes::{ERASE_POLARITY, is_set};
 
 // The word that ends an erase list, where a first block would stand.
 pub const END_OF_LIST: u64 = 0xFFFFFFFFFFFFFFFF;
 
+// An erase list: words of 64 bits, which are read where they stand.
+pub trait EraseList: Copy {
+    ghost words: { Self → List ℕ };
+
+    // The number of words.
+    fn len(self) -> usize
+        ensures { result ≡ length (words self) };
+
+    // Word i; past the end 0.
+    fn word(self, i: usize) -> u64
+        ensures { result ≡ get_or (words self) i 0 };
+}
+
+// A list that comes as words.
+#[derive(Clone, Copy)]
+pub struct Words<'a>(pub &'a [u64]);
+
+impl<'a> EraseList for Words<'a> {
+    ghost words = { λ list. list.0.now };
+
+    fn len(self) -> usize {
+        self.0.len()
+    }
+
+    fn word(self, i: usize) -> u64 {
+        self.0.get(i).copied().unwrap_or(0)
+    }
+}
+
+// A list that comes as bytes, eight to a word, the lowest first. A part word at the end is ignored.
+#[derive(Clone, Copy)]
+pub struct ByteWords<'a>(pub &'a [u8]);
+
+impl<'a> EraseList for ByteWords<'a> {
+    ghost words = { λ list. list_words list.0.now };
+
+    fn len(self) -> usize {
+        let bytes = self.0;
+        bytes.len() / 8
+    }
+
+    // A part of 8 bytes is lent to the reader, so that no test of the bound is compiled.
+    fn word(self, i: usize) -> u64 {
+        let bytes = self.0;
+        if i < bytes.len() / 8 {
+            let from = 8 * i;
+            let end = from + 8;
+            return u64_at(&bytes[from..end], 0);
+        }
+        0
+    }
+}
+
 // The refusals of an erase list for so many blocks: 2 where it has no terminator or a pair before it does not fit, then 15
 // where a pair names a protected block. One pass over the list.
-pub(crate) fn list_refusal(total: u64, protected: u64, list: &[u64], tail: &[u8]) -> Check
+pub(crate) fn list_refusal<L: EraseList>(total: u64, protected: u64, list: L) -> Result<(), Refusal>
     ensures { refusal_of result
-        ≡ first_refusal (row (not (good_list total (whole_list list.now tail.now))) 2
-        ∷ row (reaches protected (whole_list list.now tail.now)) 15 ∷ []) }
+        ≡ first_refusal (row (not (good_list total (L.words list))) 2 ∷ row (reaches protected (L.words list)) 15 ∷ []) }
 {
-    let n = word_count(list, tail);
+    if list_reaches(total, protected, list)? {
+        return Err(Refusal::AccessDenied);
+    }
+    Ok(())
+}
+
+// Whether a good list names a protected block. Refused with 2 where the list is bad, whatever it names.
+pub(crate) fn list_reaches<L: EraseList>(
+    total: u64,
+    protected: u64,
+    list: L,
+) -> Result<bool, Refusal>
+    ensures { result ≡ judged_list (good_list total (L.words list)) (reaches protected (L.words list)) }
+{
+    let pairs = list.len() / 2;
     let mut reached = false;
-    let mut i = 0;
-    while i + 1 < n {
-        let first = word_at(list, tail, i);
+    for j in 0..pairs {
+        let first = list.word(2 * j);
         if first == END_OF_LIST {
-            return list_verdict(false, reached);
+            return Ok(reached);
         }
-        let count = word_at(list, tail, i + 1);
+        let count = list.word(2 * j + 1);
         if !pair_fits(total, first, count) {
-            return list_verdict(true, reached);
+            return Err(Refusal::InvalidParameter);
         }
         if protected < first + count {
             reached = true;
         }
-        i += 2;
     }
-    if i < n {
-        let last = word_at(list, tail, i);
-        return list_verdict(last != END_OF_LIST, reached);
+    // A last word that has no count beside it may be the terminator.
+    if list.word(2 * pairs) == END_OF_LIST {
+        Ok(reached)
+    } else {
+        Err(Refusal::InvalidParameter)
     }
-    list_verdict(true, reached)
-}
-
-// The number of words of an erase list. A part word at the end of its bytes is none.
-pub(crate) fn word_count(list: &[u64], tail: &[u8]) -> usize
-    ensures { result ≡ length (whole_list list.now tail.now) }
-{
-    list.len() + tail.len() / 8
-}
-
-// Word i of an erase list; past its end 0. A part of 8 bytes is lent to the reader, so that no test of the bound is compiled.
-pub(crate) fn word_at(list: &[u64], tail: &[u8], i: usize) -> u64
-    ensures { result ≡ get_or (whole_list list.now tail.now) i 0 }
-{
-    let n = list.len();
-    if i < n {
-        return list[i];
-    }
-    let k = i - n;
-    if k < tail.len() / 8 {
-        let from = 8 * k;
-        let end = from + 8;
-        return u64_at(&tail[from..end], 0);
-    }
-    0
-}
-
-// What is said of a list that is bad or not, and that reached a protected block or not: 15 comes after every 2.
-#[tactic(auto, unfolding(crate::specs::Service::refusal_of, common::specs::Refusals::first_refusal))]
-fn list_verdict(bad: bool, reached: bool) -> Check
-    ensures { refusal_of result ≡ first_refusal (row bad 2 ∷ row reached 15 ∷ []) }
-{
-    if bad {
-        return Check::Refused(2);
-    }
-    if reached {
-        return Check::Refused(15);
-    }
-    Check::Allowed
 }
 
 // Whether a pair of first block and count names blocks, and only such as are there. The sum of the two is never formed, so
@@ -88,32 +113,17 @@ fn list_verdict(bad: bool, reached: bool) -> Check
 fn pair_fits(total: u64, first: u64, count: u64) -> bool
     ensures { result ≡ (not (eqb count 0) && leb (first + count) total) }
 {
-    if 0 < count {
-        if first < total {
-            let left = total - first;
-            return count <= left;
-        }
-    }
-    false
-}
-
-// Makes each byte of the part the value.
-pub(crate) fn fill(part: &mut [u8], value: u8)
-    ensures { part.new ≡ edit (λ i old. value) 0 part.old }
-{
-    let mut i = 0;
-    while i < part.len() {
-        part[i] = value;
-        i += 1;
-    }
+    0 < count && first < total && count <= total - first
 }
 
 // The byte whose every bit has the erase value.
+#[tactic(auto, unfolding(crate::specs::Access::erased_byte))]
 pub(crate) fn erased_byte(attributes: u32) -> u8
     ensures { result ≡ erased_byte attributes }
 {
     if is_set(attributes, ERASE_POLARITY) {
-        return 0xFF;
+        0xFF
+    } else {
+        0x00
     }
-    0x00
 }

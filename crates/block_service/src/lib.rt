@@ -9,7 +9,6 @@
 mod access;
 pub mod blocks;
 pub mod carry;
-mod check;
 pub mod erase;
 pub mod jobs;
 pub mod judged;
@@ -17,9 +16,8 @@ mod lent;
 mod marks;
 pub mod service;
 
-pub use crate::check::Check;
-pub use crate::erase::END_OF_LIST;
-pub use crate::jobs::Progress;
+pub use crate::erase::{ByteWords, END_OF_LIST, EraseList, Words};
+pub use crate::jobs::{Progress, accept_erase, carry_erase, erase_blocks};
 pub use crate::judged::{write_judged, write_refusal};
 pub use crate::service::{
     BlockSize, Moved, get_attributes, get_block_size, get_physical_address, protect_blocks, read,

@@ -83,7 +83,7 @@ pub fn get_block_size(state: &State, block: u64) -> Result<BlockSize, Refusal>
     test_lawful(state)?;
     let words = state.map_words();
     let place = find_place(words, state.length as usize, block)?;
-    let count = place.left + equal_blocks(words, place.entry, place.len);
+    let count = place.left + equal_blocks(words, &place);
     Ok(BlockSize {
         length: place.len,
         count,

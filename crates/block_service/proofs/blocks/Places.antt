@@ -10,8 +10,8 @@ use borrow.Author.Tests.{lt-ltb, le-ltb, le-leb, lt-leb, ltb-true, ltb-false, le
 use lib.Dec.{T, leb, ltb}
 use Rattle.volume.specs.BlockMap.{blocks, bytes}
 use Rattle.block_service.specs.Blocks.{place_from, place, start_of, length_of, holds, in_block, block_at, first_byte}
-use Rattle.block_service.specs.declared.blocks.Place.{Place}
-use Rattle.block_service.specs.declared.blocks.Place.TheVariants.{At, Missing}
+use Rattle.block_service.specs.Blocks.{Place}
+use Rattle.block_service.specs.Blocks.{At, Missing}
 
 pub first_byte_zero : (m : List ℕ) → first_byte m 0 ≡ 0
 unfolding first_byte
@@ -147,7 +147,7 @@ missing (At e s l r) = false
 missing Missing = true
 
 -- a block is missing exactly where the number of blocks does not pass its number
-pub place_missing : (m : List ℕ) (e s b : ℕ) → missing (place_from m e s b) ≡ leb (blocks m) b
+place_missing : (m : List ℕ) (e s b : ℕ) → missing (place_from m e s b) ≡ leb (blocks m) b
 unfolding place_from missing blocks
 place_missing [] e s b = sym (le-leb 0 b (omega arith))
 place_missing (c ∷ []) e s b = sym (le-leb 0 b (omega arith))

@@ -12,8 +12,8 @@ use Rattle.common.proofs.Lists.{drop_two}
 use Rattle.common.proofs.Refusals.{neither}
 use Rattle.volume.specs.BlockMap.{blocks, bytes, has_zero, max_length, max_blocks}
 use Rattle.block_service.specs.Blocks.{place_from, place, HasLength, equal_blocks, consecutive_blocks, outgrows, first_byte}
-use Rattle.block_service.specs.declared.blocks.Place.{Place}
-use Rattle.block_service.specs.declared.blocks.Place.TheVariants.{At}
+use Rattle.block_service.specs.Blocks.{Place}
+use Rattle.block_service.specs.Blocks.{At}
 use Rattle.volume.proofs.block_map.Words.{blocks_entry}
 use Rattle.block_service.proofs.blocks.Places.{first_byte_zero, first_byte_here, first_byte_past, first_byte-le}
 
@@ -368,14 +368,12 @@ module _ (m : List ℕ) (b e s l r : ℕ) (h : place m b ≡ At e s l r) where
   pub entry_left : b + r ≡ blocks (take (2 * (e + 1)) m)
   entry_left = omega (arith, found_blocks, blocks_split m (e + 1))
 
-  pub found_walk : (n : ℕ) → s + first_byte (r ∷ get_or m (2 * e + 1) 0 ∷ drop (2 * (e + 1)) m) n ≡ first_byte m (b + n)
+  pub found_walk : (n : ℕ) → s + first_byte (r ∷ l ∷ drop (2 * (e + 1)) m) n ≡ first_byte m (b + n)
   unfolding place
-  found_walk n = rw found_entry.1 (sym (rw (sub-zero (e + 1), zero-add (first_byte m (b + n))) at (walk_end m 0 0 b e s l r n h)))
+  found_walk n = sym (rw (sub-zero (e + 1), zero-add (first_byte m (b + n))) at (walk_end m 0 0 b e s l r n h))
 
-  pub walk_asks : (n : ℕ) → b + n ≤ blocks m → bytes m ≤ max_length
-      → (2 * e + 1 < length m)
-      × ((n ≤ r + blocks (drop (2 * (e + 1)) m)) × (s + first_byte (r ∷ get_or m (2 * e + 1) 0 ∷ drop (2 * (e + 1)) m) n ≤ max_length))
-  walk_asks n p q = (found_entry.0, (omega (arith, found_blocks), omega (arith, found_walk n, first_byte-le m (b + n))))
+  pub walk_asks : (n : ℕ) → bytes m ≤ max_length → s + first_byte (r ∷ l ∷ drop (2 * (e + 1)) m) n ≤ max_length
+  walk_asks n q = omega (arith, found_walk n, first_byte-le m (b + n))
 
   pub found_number : r + equal_blocks (drop (2 * (e + 1)) m) l ≡ consecutive_blocks m b
   unfolding place

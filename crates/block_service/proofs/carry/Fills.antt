@@ -1,11 +1,12 @@
 -- Stores in the bytes of an order: a run of them, the part of a run that a window has, and one part after another.
 use Prim.Native.Nat.{ℕ, ◌+◌, ◌-◌, ◌≤◌, ◌<◌, min}
-use mathlib.Core.Path.{◌≡◌, refl, sym, ◌∙◌}
+use mathlib.Core.Path.{◌≡◌, refl, sym, ap, ◌∙◌}
 use mathlib.Core.Bool.{Bool, true, false, cond, ◌||◌}
-use mathlib.Core.List.{List, [], ◌++◌}
+use mathlib.Core.List.{List, [], ◌∷◌, ◌++◌}
 use native.Mathlib.Omega.{arith}
 use lib.Dec.{T}
-use lib.ListN.{length, take, drop}
+use lib.ListN.{length, take, drop, replicate, length-drop}
+use lib.Seq.{length-take-le}
 use Rattle.common.specs.Lists.{edit}
 use Rattle.common.proofs.Edit.{within, edit-part, edit-same, edit-edit, edit_keep, length-edit}
 use Rattle.volume.specs.BlockMap.{blocks}
@@ -38,16 +39,23 @@ filled-append x k l v =
     go false false y = refl
 
 -- a part that was lent and filled
-filled-run : (x a n : ℕ) (v p : List ℕ) → a + n ≤ length v → p ≡ edit (λ i old. x) 0 (take n (drop a v)) → take a v ++ (p ++ drop n (drop a v)) ≡ filled x (up_from a n) v
+same_value : (x k : ℕ) (l : List ℕ) → edit (λ i old. x) k l ≡ replicate (length l) x
+unfolding edit
+same_value x k [] = refl
+same_value x k (y ∷ l) = ap (λ (r : List ℕ). x ∷ r) (same_value x (k + 1) l)
+
+filled-run : (x a n : ℕ) (v p : List ℕ) → a + n ≤ length v → p ≡ replicate n x → take a v ++ (p ++ drop n (drop a v)) ≡ filled x (up_from a n) v
 unfolding filled
 filled-run x a n v p h e =
-    rw e
+    let long : length (take n (drop a v)) ≡ n = length-take-le n (drop a v) (rw length-drop (omega arith)) in
+    let q : p ≡ edit (λ i old. x) 0 (take n (drop a v)) = e ∙ sym (same_value x 0 (take n (drop a v)) ∙ ap (λ (k : ℕ). replicate k x) long) in
+    rw q
     (edit-part (λ i old. x) a n v h
     ∙ edit-same (within a n (λ i old. x)) (λ i old. cond (member i (up_from a n)) x old) 0 0 v (λ i y k. rw (member-up_from (0 + i) a n)))
 
 -- of a run from byte s, of n bytes, the part that a window has
 pub window_store : (x s n f t skip stop : ℕ) (v p : List ℕ) → skip ≡ f → stop ≡ min t n → skip < stop → s + n ≤ length v
-    → p ≡ edit (λ i old. x) 0 (take (s + stop - (s + skip)) (drop (s + skip) v))
+    → p ≡ replicate (s + stop - (s + skip)) x
     → take (s + skip) v ++ (p ++ drop (s + stop - (s + skip)) (drop (s + skip) v)) ≡ filled x (part f t (up_from s n)) v
 window_store x s n f t skip stop v p ef et h k e =
     let z : s + stop - (s + skip) ≡ min t n - f = omega arith in

@@ -12,6 +12,7 @@ use lib.Seq.{drop-cons}
 use Rattle.common.proofs.Lists.{drop_two}
 use Rattle.block_service.specs.Erase.{end_of_list}
 use Rattle.volume.specs.BlockMap.{blocks, bytes}
+use Rattle.block_service.proofs.erase.Lists.{ended_within}
 use Rattle.block_service.specs.Blocks.{place, start_of, length_of, first_byte}
 use Rattle.block_service.proofs.blocks.Places.{first_byte-le}
 use Rattle.block_service.specs.Carry.{filled, Carried, names_first, Rest}
@@ -190,6 +191,15 @@ module _ (m : List ℕ) (value from to at : ℕ) (p : ℕ → Bool) (w : List �
   pub end_stored : (v : List ℕ) → filled value (part (from - at) (to - at) (bytes_of m (firsts p (named_blocks (drop i w))))) v ≡ v
   unfolding firsts bytes_of
   end_stored v = rw (end_blocks w i h e, part_nil (from - at) (to - at)) (filled_none value v)
+
+-- a walk that comes to the terminator, at place j, has done what was left at place i
+pub rest_done : (m : List ℕ) (value from to at : ℕ) (p : ℕ → Bool) (w : List ℕ) (i : ℕ) (v : List ℕ) (r : ℕ) (u : List ℕ) (q : ℕ → Bool) (j : ℕ) → get_or w j 0 ≡ end_of_list
+    → r + length (bytes_of m (firsts q (named_blocks (drop j w)))) ≡ at + length (bytes_of m (firsts p (named_blocks (drop i w))))
+    → filled value (part (from - r) (to - r) (bytes_of m (firsts q (named_blocks (drop j w))))) u ≡ filled value (part (from - at) (to - at) (bytes_of m (firsts p (named_blocks (drop i w))))) v
+    → Rest m value from to at p w i v r u
+rest_done m value from to at p w i v r u q j e t s =
+    let h = ended_within w j e in
+    record { told = sym (end_told m value from to r q w j h e) ∙ t; stored = sym (end_stored m value from to r q w j h e u) ∙ s }
 
 -- ---- the first pairs of a list
 

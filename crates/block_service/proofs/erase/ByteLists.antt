@@ -1,14 +1,14 @@
--- Laws of an erase list that comes as bytes, and of one whose first words come as words: how many words it has, and which.
+-- Laws of an erase list that comes as bytes: how many words it has, and which.
 use Prim.Native.Nat.{ℕ, zero, suc, ◌+◌, ◌-◌, ◌*◌, ◌/◌, ◌%◌, ◌≤◌, ◌<◌}
-use mathlib.Core.List.{List, [], ◌∷◌, ◌++◌, append-nil}
+use mathlib.Core.List.{List, ◌∷◌, ◌++◌}
 use mathlib.Core.Path.{◌≡◌, refl, sym, ap, ap₂, ◌∙◌}
 use native.Mathlib.Omega.{arith}
 use native.Mathlib.Nat.{add-zero, add-sub_cancel_left}
-use lib.ListN.{length, get_or, take, drop, take-append-drop, length-append, get_or-append, get_or-eq_default}
-use lib.Seq.{get_or-append-add, get_or-take, length-take-le}
+use lib.ListN.{length, get_or, take, drop, take-append-drop, length-append, get_or-append}
+use lib.Seq.{get_or-take, length-take-le}
 use Rattle.numbers.specs.LittleEndian.{le}
 use Rattle.numbers.proofs.LittleEndian.{le_same, le_skip}
-use Rattle.block_service.specs.Erase.{longs_at, list_words, whole_list}
+use Rattle.block_service.specs.Erase.{longs_at, list_words}
 
 -- k words are k; word i of them stands 8 * i bytes behind the first; and they are those of the bytes that they take
 length_longs : (k : ℕ) (s : List ℕ) (at : ℕ) → length (longs_at k s at) ≡ k
@@ -53,37 +53,3 @@ unfolding list_words
 part_ignored s t whole part =
     let e : length (s ++ t) / 8 ≡ length s / 8 = rw length-append (omega arith) in
     rw e (longs_front (length s / 8) s t 0 (omega arith))
-
--- ---- a list whose first words come as words
-
-module _ (list tail : List ℕ) where
-  pub whole_length : length (whole_list list tail) ≡ length list + length tail / 8
-  unfolding whole_list
-  whole_length = length-append list (list_words tail) ∙ ap (λ (n : ℕ). length list + n) (word_number tail)
-
-  -- its word i: one of the words, one of the bytes' words, or past its end
-  pub word_listed : (i : ℕ) → i < length list → get_or list i 0 ≡ get_or (whole_list list tail) i 0
-  unfolding whole_list
-  word_listed i h = sym (get_or-append list (list_words tail) 0 i h)
-
-  pub word_tail : (i at : ℕ) → length list ≤ i → i - length list < length tail / 8 → at ≡ 8 * (i - length list)
-      → le 8 tail at ≡ get_or (whole_list list tail) i 0
-  unfolding whole_list
-  word_tail i at h p q =
-      let e : length list + (i - length list) ≡ i = omega arith in
-      ap (λ (j : ℕ). le 8 tail j) q
-      ∙ sym (byte_word tail (i - length list) p)
-      ∙ sym (get_or-append-add list (list_words tail) (i - length list) 0)
-      ∙ ap (λ (j : ℕ). get_or (list ++ list_words tail) j 0) e
-
-  pub word_past : (i : ℕ) → length list ≤ i → length tail / 8 ≤ i - length list → 0 ≡ get_or (whole_list list tail) i 0
-  word_past i h p = sym (get_or-eq_default (whole_list list tail) 0 (omega (arith, whole_length)))
-
--- all of it words, or all of it bytes
-pub words_alone : (list : List ℕ) → whole_list list [] ≡ list
-unfolding whole_list list_words longs_at
-words_alone list = append-nil list
-
-pub bytes_alone : (tail : List ℕ) → whole_list [] tail ≡ list_words tail
-unfolding whole_list
-bytes_alone tail = refl

@@ -4,12 +4,16 @@ use mathlib.Core.Path.{◌≡◌, refl, sym, ◌∙◌}
 use mathlib.Core.Bool.{Bool, true, false, not, ◌&&◌, ◌||◌, and_assoc, or-true, true≢false}
 use mathlib.Core.List.{List, [], ◌∷◌}
 use native.Mathlib.Omega.{arith}
-use borrow.Author.Tests.{le-leb, lt-leb, lt-ltb, le-ltb, ne_eqb, leb-true, leb-false, ltb-true, ltb-false, eqb-false}
+use borrow.Author.Tests.{le-leb, lt-leb, lt-ltb, le-ltb, ne_eqb, leb-true, leb-false, ltb-true, ltb-false, eqb-true, eqb-false}
 use lib.Dec.{T, leb, ltb, eqb}
-use lib.ListN.{length, get_or, drop, length-drop, drop_of_length-le}
+use lib.ListN.{length, get_or, drop, length-drop, drop_of_length-le, get_or-eq_default}
 use lib.Seq.{drop-cons}
 use Rattle.common.proofs.Lists.{drop_two}
-use Rattle.block_service.specs.Erase.{end_of_list, good_list, names, reaches}
+use Rattle.std.specs.Prelude.{Ok, Err}
+use Rattle.common.specs.Refusal.{number}
+use Rattle.common.specs.declared.refusal.Refusal.{Refusal}
+use Rattle.common.specs.declared.refusal.Refusal.TheVariants as R
+use Rattle.block_service.specs.Erase.{end_of_list, good_list, names, reaches, judged_list}
 
 -- a pair of first block f and count c fits n blocks: tested without the sum of the two
 pub fits_within : (n f c : ℕ) → 0 < c → f < n → leb c (n - f) ≡ (not (eqb c 0) && leb (f + c) n)
@@ -56,18 +60,16 @@ pub past_list : (w : List ℕ) (i n : ℕ) → length w ≤ i → false ≡ good
 unfolding good_list
 past_list w i n h = rw (drop_of_length-le w {i = i} h)
 
--- a last word alone: the list is good where it is the terminator, and reaches nothing
-module _ (w : List ℕ) (i : ℕ) (h : i < length w) (s : length w ≤ i + 1) where
-  one_word : drop i w ≡ get_or w i 0 ∷ []
-  one_word = rw (drop-cons w i 0 h, drop_of_length-le w {i = suc i} (omega arith))
-
-  pub last_good : (n : ℕ) → eqb (get_or w i 0) end_of_list ≡ good_list n (drop i w)
-  unfolding good_list
-  last_good n = rw one_word
-
-  pub last_reaches : (m : ℕ) → reaches m (drop i w) ≡ false
-  unfolding reaches
-  last_reaches m = rw one_word
+-- a word that is the terminator stands in the list
+pub ended_within : (w : List ℕ) (i : ℕ) → get_or w i 0 ≡ end_of_list → i < length w
+ended_within w i e = go (ltb i (length w)) refl
+  where
+    go : (t : Bool) → ltb i (length w) ≡ t → i < length w
+    go true p = ltb-true _ _ p
+    go false p =
+        let q : length w ≤ i = ltb-false _ _ p in
+        let z : ◌≡◌ {A = ℕ} (get_or w i 0) 0 = get_or-eq_default w 0 q in
+        absurd (omega arith)
 
 odd_list : (w : List ℕ) (i n : ℕ) → i < length w → length w - i < 2 → (get_or w i 0 ≡ end_of_list → ⊥) → false ≡ good_list n (drop i w)
 unfolding good_list
@@ -76,6 +78,22 @@ odd_list w i n h s e = rw (drop-cons w i 0 h) (go (drop (suc i) w) (rw (length-d
     go : (r : List ℕ) → length r ≤ 0 → false ≡ good_list n (get_or w i 0 ∷ r)
     go [] p = rw (ne_eqb (get_or w i 0) end_of_list e)
     go (c ∷ r) p = absurd (omega arith)
+
+-- a list that ends at place i, or one word after it, is bad where that word is no terminator
+pub not_ended : (w : List ℕ) (i n : ℕ) → length w ≤ i + 1 → (get_or w i 0 ≡ end_of_list → ⊥) → false ≡ good_list n (drop i w)
+not_ended w i n s e = go (ltb i (length w)) refl
+  where
+    go : (t : Bool) → ltb i (length w) ≡ t → false ≡ good_list n (drop i w)
+    go true p = let q : i < length w = ltb-true _ _ p in odd_list w i n q (omega arith) e
+    go false p = past_list w i n (ltb-false _ _ p)
+
+-- so a good list that ends there ends with its terminator
+pub good_end : (w : List ℕ) (i n : ℕ) → length w ≤ i + 1 → good_list n (drop i w) ≡ true → get_or w i 0 ≡ end_of_list
+good_end w i n s g = go (eqb (get_or w i 0) end_of_list) refl
+  where
+    go : (t : Bool) → eqb (get_or w i 0) end_of_list ≡ t → get_or w i 0 ≡ end_of_list
+    go true p = eqb-true _ _ p
+    go false p = absurd (true≢false (sym g ∙ sym (not_ended w i n s (eqb-false _ _ p))))
 
 -- where a pair stands there, of first block f and count c
 module _ (w : List ℕ) (i f c : ℕ) (h : i + 1 < length w) (ef : f ≡ get_or w i 0) (ec : c ≡ get_or w (i + 1) 0) (e : f ≡ end_of_list → ⊥) where
@@ -128,6 +146,16 @@ good_even w i n h e g = go (ltb (i + 1) (length w)) refl
         let q : length w ≤ i + 1 = ltb-false _ _ p in
         let k = odd_list w i n h (omega arith) e in
         absurd (let z : ◌≡◌ {A = ℕ} 0 1 = cc in omega arith)
+
+-- ---- what is said of a list
+
+pub judged_ok : (good reached t : Bool) → Ok t ≡ judged_list good reached → (good ≡ true) × (t ≡ reached)
+judged_ok true reached t e = (refl, cc)
+judged_ok false reached t e = absurd (cc)
+
+pub judged_err : (good reached : Bool) (e : Refusal) → Err e ≡ judged_list good reached → (good ≡ false) × (number e ≡ 2)
+judged_err true reached e h = absurd (cc)
+judged_err false reached e h = (refl, let z : e ≡ R.InvalidParameter = cc in rw z)
 
 -- ---- the blocks from block m on
 

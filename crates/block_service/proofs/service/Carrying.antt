@@ -19,7 +19,7 @@ use Rattle.volume.specs.declared.state.State.{State}
 use Rattle.block_service.specs.Access.{keep, erase, erased_byte, changed_byte}
 use Rattle.block_service.specs.Blocks.{in_block, block_at}
 use Rattle.block_service.specs.Erase.{good_list, names, reaches}
-use Rattle.block_service.specs.Carry.{filled, refused_with, Progressed}
+use Rattle.block_service.specs.Carry.{filled, Progressed}
 use Rattle.block_service.specs.Order.{member, part, erase_order, job_given, carry_change, finishes}
 use Rattle.block_service.specs.Service.{carry_erase, lent_refusals, refusals, effect, Result, result_of, perform, buffer_of, step, progress_answer, carry_answer}
 use Rattle.std.specs.Prelude.{Result as Outcome, Ok, Err}
@@ -52,21 +52,6 @@ carry_other st v list job n e i k =
         let w : i < bytes (map_of st) = rw (first_byte_end (map_of st)) at (before_first_byte (map_of st) i (blocks (map_of st)) (omega arith) (within (block_at (map_of st) i) t)) in
         absurd (k (block_at (map_of st) i) t (in_some_block (map_of st) i w))
     pick false q = refl
-
--- ---- the rows of a carrying on, as the code judges them
-
--- of what is said of a list that is bad or not and reaches a protected block or not: whether it is bad, and where it is not, whether it reaches one
-pub judged_bad : (bad reached : Bool) (o : Option ℕ) → o ≡ first_refusal (row bad 2 ∷ row reached 15 ∷ []) → refused_with 2 o ≡ bad
-unfolding first_refusal refused_with
-judged_bad true reached o e = rw e
-judged_bad false true o e = rw e
-judged_bad false false o e = rw e
-
-pub judged_reached : (bad reached : Bool) (o : Option ℕ) → bad ≡ false → o ≡ first_refusal (row bad 2 ∷ row reached 15 ∷ []) → refused_with 15 o ≡ reached
-unfolding first_refusal refused_with
-judged_reached true reached o z e = absurd (true≢false z)
-judged_reached false true o z e = rw e
-judged_reached false false o z e = rw e
 
 -- ---- what is answered of a good list
 

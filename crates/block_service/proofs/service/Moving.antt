@@ -21,7 +21,7 @@ use Rattle.volume.proofs.state.Lawful.{lawful}
 use Rattle.block_service.specs.Access.{count_moved, written_byte, keep, store, write_change, changed_byte}
 use Rattle.block_service.specs.Blocks.{place, start_of, length_of, in_block}
 use Rattle.block_service.specs.Service.{move_answer, read, write, refusals, effect, Result, result_of, perform, buffer_of, step}
-use Rattle.block_service.specs.declared.blocks.Place.TheVariants.{At}
+use Rattle.block_service.specs.Blocks.{At}
 use Rattle.block_service.proofs.blocks.Places.{in_block_of_bounds, found_start, found_end, found_within, place_found, place_there}
 use Rattle.block_service.proofs.service.Steps.{allowed_step, allowed_answers, lent_last, lent_passes, passed, passed_read, passed_write, read_step, write_step}
 

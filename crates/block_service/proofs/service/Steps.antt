@@ -24,7 +24,7 @@ use Rattle.block_service.specs.Erase.{good_list, names, reaches, erase_change}
 use Rattle.block_service.specs.Service.{Call, get_attributes, set_attributes, get_physical_address, get_block_size, read, write, erase_blocks, protect_blocks, accept_erase, carry_erase, lent_refusals, refusals}
 use Rattle.block_service.specs.Service.{reply, effect, move_answer, carry_answer, Result, result_of, perform, buffer_of, step, decide}
 use Rattle.block_service.specs.Order.{job_given}
-use Rattle.block_service.specs.declared.blocks.Place.TheVariants.{At}
+use Rattle.block_service.specs.Blocks.{At}
 use Rattle.block_service.proofs.blocks.Runs.{fits}
 use Rattle.block_service.proofs.erase.Lists.{names-reaches}
 
