@@ -76,7 +76,7 @@ fn run_bytes(words: &[u32], lent: usize, first: usize, count: usize) -> Range<us
     let Ok(place) = find_place(words, lent, first as u64) else {
         return 0..0;
     };
-    place.start..run_end(words, place.entry, place.start, place.left, count)
+    place.start..run_end(words, &place, count)
 }
 
 // Marks the blocks that the list's first `pairs` pairs name.
