@@ -2,7 +2,6 @@ pub mod Answer
 pub mod Called
 pub mod DependencyCalls
 pub mod JobCalls
-pub mod OrderCalls
 pub mod Packed
 pub mod SectionCalls
 pub mod VolumeCalls

@@ -1,5 +1,17 @@
 // What a call answers, and the bytes that a caller lends for it.
-ghost use Rattle.std.specs.Prelude.{◌≡◌, ◌≤◌, length, Result, Ok, Err};
+#![tactic(
+    auto,
+    unfolding(
+        crate::specs::Answer::answer_stored,
+        crate::specs::Answer::entry_words,
+        common::specs::Answers::number_of,
+        common::specs::Answers::values_of,
+        block_service::specs::Service::moved_answer,
+        volume::specs::ExtendedEntry::entry_answer
+    )
+)]
+
+ghost use Rattle.std.specs.Prelude.{◌≡◌, ◌≤◌, length, refl, Result, Ok, Err};
 ghost use Rattle.common.specs.Answers.{Answer, refused, number_of, values_of};
 ghost use Rattle.common.specs.Refusal.{number};
 ghost use Rattle.common.specs.declared.refusal.Refusal.{Refusal};
@@ -9,7 +21,7 @@ ghost use Rattle.dependency.specs.Opcodes.{read_answer};
 ghost use Rattle.sections.specs.Append.{appended_answer};
 ghost use Rattle.sections.specs.Search.{found_answer};
 ghost use Rattle.volume.specs.ExtendedEntry.{entry_answer};
-ghost use Rattle.fv.specs.Answer.{answer_bytes, answer_stored, entry_words, Gives, GivesList, last_count, two_stored};
+ghost use Rattle.fv.specs.Answer.{answer_bytes, answer_stored, entry_refusal, entry_words, Gives, moved_refusal, two_stored};
 
 use block_service::Moved;
 use common::Refusal;
@@ -103,7 +115,7 @@ impl Answered for Moved {
 impl Answered for Part {
     ghost answer = { found_answer };
 
-    ghost refusal = { found_refusal };
+    ghost refusal = { λ e. refl };
 
     fn outcome(self) -> Outcome {
         Outcome::success(self.first as u64, self.end as u64)
@@ -114,7 +126,7 @@ impl Answered for Part {
 impl Answered for usize {
     ghost answer = { appended_answer };
 
-    ghost refusal = { appended_refusal };
+    ghost refusal = { λ e. refl };
 
     fn outcome(self) -> Outcome {
         Outcome::success(self as u64, 0)
@@ -139,7 +151,7 @@ impl Answered for ExtEntry {
 impl Answered for Read {
     ghost answer = { read_answer };
 
-    ghost refusal = { opcode_refusal };
+    ghost refusal = { λ e. refl };
 
     fn outcome(self) -> Outcome {
         Outcome::success(u64::from(u8::from(self.opcode)), self.after as u64)
@@ -150,29 +162,9 @@ impl Answered for Read {
 impl Answered for bool {
     ghost answer = { evaluated_answer };
 
-    ghost refusal = { evaluated_refusal };
+    ghost refusal = { λ e. refl };
 
     fn outcome(self) -> Outcome {
         Outcome::success(u64::from(self), 0)
     }
-}
-
-// Gives what a list of writes came to: the last answer's number, and, also beside a refusal, how many writes succeeded and the last one's count.
-pub(crate) fn give_list(written: write_orders::Written, answer: &mut [u8]) -> u32
-    requires { answer_bytes ≤ length answer.old }
-    ensures number { result ≡ number_of (moved_answer written.last) }
-    ensures stored { answer.new ≡ two_stored written.count (last_count (moved_answer written.last)) answer.old }
-{
-    let first = written.count as u64;
-    let (number, second) = match written.last {
-        Ok(Moved::All(moved)) => (0, moved as u64),
-        Ok(Moved::Short(moved)) => (4, moved as u64),
-        Err(refusal) => (u32::from(refusal.number()), 0),
-    };
-    Outcome {
-        number,
-        first,
-        second,
-    }
-    .store(answer)
 }
