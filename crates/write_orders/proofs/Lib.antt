@@ -1,6 +1,6 @@
-pub mod ByteOrders
+pub mod Carried
 pub mod Lists
+pub mod OrderBytes
 pub mod Requests
-pub mod Stages
 pub mod Theorems
 pub mod Turns

@@ -24,7 +24,7 @@ use Rattle.isolation.proofs.Theorems as isolation
 use Rattle.write_orders.specs.Orders.{stretch, call_of, batch, writes_from, write_orders, counted, orders_in, list_bytes, Typed}
 use Rattle.write_orders.specs.Requests.{made_of, Request, serve, calls_of, ServedAlike}
 use Rattle.write_orders.specs.declared.Order.{Order}
-use Rattle.write_orders.proofs.ByteOrders as bytes
+use Rattle.write_orders.proofs.OrderBytes as bytes
 use Rattle.write_orders.proofs.Lists as lists
 use Rattle.write_orders.proofs.Requests as requests
 use Rattle.write_orders.proofs.Turns as turns

@@ -1,13 +1,15 @@
 -- Laws of one order's turn: it is a write, which leaves the state; and how it is refused or carried out, in the form in which the code meets it.
-use Prim.Native.Nat.{ℕ, ◌+◌, ◌-◌, ◌≤◌, ◌<◌}
+use Prim.Native.Nat.{ℕ, ◌+◌, ◌≤◌, ◌<◌}
 use mathlib.Core.Bool.{Bool, true, false, cond}
-use mathlib.Core.List.{List, []}
+use mathlib.Core.List.{List, [], ◌++◌, append-nil}
 use mathlib.Core.Option.{Option, none, some}
-use mathlib.Core.Path.{◌≡◌, refl, sym, ap, ◌∙◌}
-use native.Mathlib.Nat.{add-sub_cancel_left}
+use mathlib.Core.Path.{◌≡◌, sym, ap, ◌∙◌}
 use native.Mathlib.Omega.{arith}
 use borrow.Author.Tests.{lt-ltb, le-ltb, le-leb}
 use lib.ListN.{length, get_or, take, drop, length-take}
+use lib.Seq.{drop-length}
+use Rattle.std.specs.List.{slice_range}
+use Rattle.std.proofs.lemmas.List.Folds.{drop_split}
 use Rattle.common.specs.Answers.{Answer, refused}
 use Rattle.common.specs.Refusals.{first_refusal}
 use Rattle.volume.specs.Attributes.{write_status}
@@ -16,34 +18,19 @@ use Rattle.volume.specs.State.{map_of}
 use Rattle.volume.specs.declared.state.State.{State}
 use Rattle.block_service.specs.Access.{count_moved}
 use Rattle.block_service.specs.Blocks.{place}
-use Rattle.block_service.specs.Judged.{Stored, stored, judged_write}
-use Rattle.block_service.specs.Service.{Call, write, lent_refusals, refusals, effect, result_of, perform, buffer_of, step}
+use Rattle.block_service.specs.Judged.{stored, judged_write}
+use Rattle.block_service.specs.Service.{Call, write, lent_refusals, refusals, Result, result_of, buffer_of, step}
 use Rattle.block_service.specs.declared.blocks.Place.TheVariants.{At}
 use Rattle.block_service.proofs.blocks.Places.{place_found}
-use Rattle.block_service.proofs.judged.Reaches.{judged_step}
+use Rattle.block_service.proofs.judged.Reaches.{judged_written}
 use Rattle.block_service.proofs.service.Kept.{write_outside}
-use Rattle.block_service.proofs.service.Steps.{refused-step, allowed_step, lent_first, lent_2}
+use Rattle.block_service.proofs.service.Steps.{refused-step, lent_first, lent_2, write_leaves}
 use Rattle.write_orders.specs.Orders.{leaves, stretch, call_of}
 use Rattle.write_orders.specs.declared.Order.{Order}
 
--- a write leaves the state, and has no buffer
-write_leaves : (st : State) (v : List ℕ) (b o : ℕ) (new : List ℕ) → ((step st v (write b o new)).state ≡ st) × ((step st v (write b o new)).buffer ≡ [])
-unfolding perform effect buffer_of
-write_leaves st v b o new = go (first_refusal (refusals st (length v) (write b o new))) refl
-  where
-    go : (x : Option ℕ) → first_refusal (refusals st (length v) (write b o new)) ≡ x → ((step st v (write b o new)).state ≡ st) × ((step st v (write b o new)).buffer ≡ [])
-    go none e = rw (sym (allowed_step st v (write b o new) e)) (refl, refl)
-    go (some n) e = rw (sym (refused-step st v (write b o new) n e)) (refl, refl)
-
--- so its answer and its volume are its result
-write_result : (st : State) (v : List ℕ) (b o : ℕ) (new : List ℕ) (a : Answer) (after : List ℕ)
-    → stored a after ≡ stored (step st v (write b o new)).answer (step st v (write b o new)).volume → result_of a st after [] ≡ step st v (write b o new)
-write_result st v b o new a after e =
-    let r = step st v (write b o new) in
-    let kept = write_leaves st v b o new in
-    let answered : a ≡ r.answer = ap (λ (x : Stored). x.answer) e in
-    let left : after ≡ r.volume = ap (λ (x : Stored). x.volume) e in
-    rw (answered, left) (ap (λ (s : State). result_of r.answer s r.volume []) (sym kept.0) ∙ ap (λ (l : List ℕ). result_of r.answer r.state r.volume l) (sym kept.1))
+-- what the data has from a byte on
+pub data_rest : (d : List ℕ) (f : ℕ) → f ≤ length d → slice_range d f (length d) ≡ drop f d
+data_rest d f h = sym (drop_split d f (length d) h ∙ ap (λ (l : List ℕ). slice_range d f (length d) ++ l) (drop-length d) ∙ append-nil _)
 
 module _ (st : State) (d : List ℕ) (o : Order) where
   -- what holds of every write holds of an order's
@@ -66,7 +53,7 @@ module _ (st : State) (d : List ℕ) (o : Order) where
 
   module _ (v : List ℕ) where
     pub order_state : (step st v (call_of st d o)).state ≡ st
-    order_state = as_write (λ c. (step st v c).state ≡ st) (λ b offset new. (write_leaves st v b offset new).0)
+    order_state = as_write (λ c. (step st v c).state ≡ st) (λ b offset new. ap (λ (r : Result). r.state) (sym (write_leaves st v b offset new)))
 
     -- 111, 5 and 15 refuse every order
     pub lent_refused : (m : ℕ) → first_refusal (lent_refusals st (length v) write_status) ≡ some m → result_of (refused m) st v [] ≡ step st v (call_of st d o)
@@ -83,10 +70,10 @@ module _ (st : State) (d : List ℕ) (o : Order) where
 
       -- and the write where it does not, from what `write_judged` answers
       pub good_stretch : (a : Answer) (after : List ℕ) → o.first + o.len ≤ length d
-          → stored a after ≡ judged_write st.attributes st.protected (map_of st) v o.block o.offset (take (o.first + o.len - o.first) (drop o.first d))
+          → stored a after ≡ judged_write st.attributes st.protected (map_of st) v o.block o.offset (take o.len (drop o.first d))
           → result_of a st after [] ≡ step st v (call_of st d o)
       unfolding stretch
-      good_stretch a after h k = rw (stretch_lies h, sym (add-sub_cancel_left o.first o.len)) (write_result st v _ _ _ a after (k ∙ judged_step st v _ _ _ e))
+      good_stretch a after h k = rw (stretch_lies h) (judged_written st v _ _ _ a after e k)
 
     -- no byte changes but those of the block that it names that its write counts
     pub order_outside : (i : ℕ) → ((e s l r : ℕ) → place (map_of st) o.block ≡ At e s l r → s + o.offset ≤ i → i < s + o.offset + count_moved l o.offset o.len → ⊥)

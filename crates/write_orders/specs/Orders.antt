@@ -1,20 +1,15 @@
 -- Many writes in one call (document 02, e): "The result is that of single writes in list order up to the first answer that is not success; we get the number that
 -- succeeded and the last answer." A single write is a step of the block service, and a list an iteration of `step`. 02's stretch is the part of the data buffer that an order stores.
-use Rattle.std.specs.Prelude.{ℕ, zero, suc, ◌+◌, ◌*◌, ◌/◌, ◌<◌, ◌^◌, Bool, true, false, cond, List, [], ◌∷◌, ◌++◌, eqb, ltb, length, take, drop}
+use Rattle.std.specs.Prelude.{ℕ, zero, suc, ◌+◌, ◌*◌, ◌/◌, ◌<◌, ◌^◌, Bool, cond, List, [], ◌∷◌, ◌++◌, ltb, length, take, drop}
 use Rattle.common.specs.Answers.{Answer, refused, success}
-use Rattle.common.specs.Refusals.{first_refusal, unless_refused}
 use Rattle.numbers.specs.LittleEndian.{le, le_bytes}
-use Rattle.volume.specs.Attributes.{write_status}
 use Rattle.volume.specs.BlockMap.{blocks}
 use Rattle.volume.specs.State.{map_of}
 use Rattle.volume.specs.declared.state.State.{State}
-use Rattle.block_service.specs.Service.{Call, write, lent_refusals, moved_answer, step}
-use Rattle.block_service.specs.declared.service.Moved
-use Rattle.block_service.specs.declared.service.Moved.{Moved}
+use Rattle.block_service.specs.Service.{Call, write, moved_answer, step}
 use Rattle.isolation.specs.Runs.{is_success}
 use Rattle.write_orders.specs.declared.Order.{Order}
 use Rattle.write_orders.specs.declared.Written.{Written}
-use Rattle.write_orders.specs.declared.Stage.{Stage}
 
 -- "up to sixty-four small writes at once"
 abbrev pub most_orders : ℕ
@@ -95,18 +90,6 @@ Typed o = (o.block < 2 ^ 64) × (o.offset < 2 ^ 64) × (o.first < 2 ^ 64) × (o.
 unfoldable pub written_of : Written → List ℕ → Batch
 written_of w v = batch w.count (moved_answer w.last) v
 
--- private to the code's contracts: where a list stands between two orders
-abbrev pub stage : Bool → ℕ → Moved → Stage
-stage going count last = record { going = going; written = record { count = count; last = last } }
-
--- private to the code's contracts: where a list of n orders stands before the first, on a volume of m lent bytes
-unfoldable pub first_stage : State → ℕ → ℕ → Stage
-first_stage st m n =
-    cond (ltb most_orders n) (stage false 0 (Moved.TheVariants.Refused 2))
-    (cond (eqb n 0) (stage false 0 (Moved.TheVariants.Success 0))
-    (unless_refused (λ number. stage false 0 (Moved.TheVariants.Refused number)) (first_refusal (lent_refusals st m write_status))
-    (stage true 0 (Moved.TheVariants.Success 0))))
-
--- the number of writes that succeeded after one more
+-- for the theorems: the number of writes that succeeded after one more
 unfoldable pub counted : Answer → ℕ → ℕ
 counted a n = cond (is_success a) (n + 1) n

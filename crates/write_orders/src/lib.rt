@@ -5,15 +5,17 @@
 // the list: a write changes neither it nor the volume's length, on which 111, 5 and 15 hang.
 #![tactic(auto)]
 
-ghost use Rattle.std.specs.Prelude.{◌&&◌, [], ◌≡◌, ◌≤◌, ◌<◌, ◌+◌, ◌/◌, ltb, length, take};
+ghost use Rattle.std.specs.Prelude.{[], List, ◌≡◌, length, slice_get};
 ghost use Rattle.std.proofs.Math.Option.{none};
 ghost use Rattle.common.specs.Refusals.{first_refusal};
 ghost use Rattle.volume.specs.Attributes.{write_status};
 ghost use Rattle.block_service.specs.Service.{step, result_of, moved_answer, lent_refusals};
 ghost use Rattle.isolation.specs.Runs.{is_success};
-ghost use Rattle.write_orders.specs.Orders.{call_of, write_array, write_orders, written_of, stage, first_stage, counted, order_bytes, order_at, orders_in};
+ghost use Rattle.write_orders.specs.Orders.{call_of, write_array, write_orders, written_of, order_at, orders_in};
+ghost use Rattle.write_orders.specs.declared.Order.{Order};
 
-use block_service::{Check, Moved, write_judged, write_refusal};
+use block_service::{Moved, write_judged, write_refusal};
+use common::Refusal;
 use numbers::u64_at;
 use volume::State;
 
@@ -24,7 +26,7 @@ const MOST_ORDERS: usize = 64;
 const ORDER_BYTES: usize = 32;
 
 // A write order: from an offset of a block on, the stretch of the data buffer that begins at byte `first` and has `len` bytes.
-#[derive(Clone, Copy)]
+#[derive(Clone, Copy, Debug, PartialEq, Eq)]
 pub struct Order {
     pub block: u64,
     pub offset: usize,
@@ -33,178 +35,162 @@ pub struct Order {
 }
 
 // How many writes succeeded, and the last answer.
-#[derive(Clone, Copy)]
+#[derive(Clone, Copy, Debug, PartialEq, Eq)]
 pub struct Written {
     pub count: usize,
-    pub last: Moved,
+    pub last: Result<Moved, Refusal>,
 }
 
-// Where a list stands between two orders: whether there is one more to be carried out, and what is answered where there is none.
+// A list of orders, which are copied out one by one.
+pub trait OrderList: Copy {
+    ghost orders: { Self → List Order };
+
+    // The number of orders.
+    fn len(self) -> usize
+        ensures { result ≡ length (orders self) };
+
+    // Order i, where there is one.
+    fn order(self, i: usize) -> Option<Order>
+        ensures { result ≡ slice_get (orders self) i };
+}
+
+// A list that comes as orders.
+impl<'a> OrderList for &'a [Order] {
+    ghost orders = { λ list. list.now };
+
+    fn len(self) -> usize {
+        <[Order]>::len(self)
+    }
+
+    fn order(self, i: usize) -> Option<Order> {
+        self.get(i).copied()
+    }
+}
+
+// A list that comes as bytes, as in memory that C lends: 32 to an order, four little-endian numbers of 64 bits (block, offset, first
+// byte and length of the stretch). Up to 31 bytes behind the last whole order are ignored.
 #[derive(Clone, Copy)]
-struct Stage {
-    going: bool,
-    written: Written,
+pub struct ByteOrders<'a>(pub &'a [u8]);
+
+impl<'a> OrderList for ByteOrders<'a> {
+    ghost orders = { λ list. orders_in list.0.now };
+
+    fn len(self) -> usize {
+        let bytes = self.0;
+        bytes.len() / ORDER_BYTES
+    }
+
+    fn order(self, i: usize) -> Option<Order> {
+        let bytes = self.0;
+        let (orders, _) = bytes.as_chunks::<ORDER_BYTES>();
+        let bytes = orders.get(i)?;
+        Some(order_of(bytes))
+    }
+}
+
+// The order that 32 bytes hold.
+fn order_of(bytes: &[u8; ORDER_BYTES]) -> Order
+    ensures { result ≡ order_at bytes.now 0 }
+{
+    Order {
+        block: u64_at(bytes, 0),
+        offset: u64_at(bytes, 8) as usize,
+        first: u64_at(bytes, 16) as usize,
+        len: u64_at(bytes, 24) as usize,
+    }
 }
 
 // Carries out the orders one after the other, up to the first answer that is not success. Refused with 2 for more than 64 orders; an
 // empty list answers success and 0; then, at each order's turn, 111, 5, 15 (writes are disabled), 2 (the stretch leaves the data, also
 // an empty one that begins behind its end), 2 (no such block) or 15 (the block is protected). A short write ends the list and is not
 // counted; its bytes stay. Costs one test of the state, and for each order a scan of the map and the bytes that it stores.
-pub fn write_orders(st: State, volume: &mut [u8], orders: &[Order], source: &[u8]) -> Written
-    ensures { written_of result volume.new ≡ write_orders st source.now volume.old orders.now }
+pub fn write_orders<L: OrderList>(
+    state: &State,
+    volume: &mut [u8],
+    orders: L,
+    source: &[u8],
+) -> Written
+    ensures { written_of result volume.new ≡ write_orders state.now source.now volume.old (L.orders orders) }
 {
     let n = orders.len();
-    let map = st.map;
-    let lent = &map;
-    let mut at = begin(st, volume.len(), n);
-    while at.going {
-        let i = at.written.count;
-        let order = orders[i];
-        at = next(st, lent, volume, order, source, n, i);
+    if MOST_ORDERS < n {
+        return Written {
+            count: 0,
+            last: Err(Refusal::InvalidParameter),
+        };
     }
-    at.written
+    let mut last = Ok(Moved::All(0));
+    if n == 0 {
+        return Written { count: 0, last };
+    }
+    if let Err(refusal) = write_refusal(state, volume.len() as u64) {
+        return Written {
+            count: 0,
+            last: Err(refusal),
+        };
+    }
+    for i in 0..n {
+        let order = orders.order(i).unwrap();
+        last = write_order(state, volume, order, source);
+        if !succeeded(last) {
+            return Written { count: i, last };
+        }
+    }
+    Written { count: n, last }
 }
 
 // The same with the first `used` orders of an array, for programs in Rattle. Refused with 2 where
 // `used` is more than 64. The array is copied once.
 #[tactic(auto, unfolding(crate::specs::Orders::written_of, crate::specs::Orders::write_array, block_service::specs::Service::moved_answer))]
 pub fn write_order_array(
-    st: State,
+    state: &State,
     volume: &mut [u8],
     array: [Order; 64],
     used: usize,
     source: &[u8],
 ) -> Written
-    ensures { written_of result volume.new ≡ write_array st source.now volume.old array used }
+    ensures { written_of result volume.new ≡ write_array state.now source.now volume.old array used }
 {
     if MOST_ORDERS < used {
         return Written {
             count: 0,
-            last: Moved::Refused(2),
+            last: Err(Refusal::InvalidParameter),
         };
     }
-    write_first(st, volume, array, used, source)
+    write_orders(state, volume, &array[..used], source)
 }
 
-// The same with orders that come as bytes, as in memory that C lends: 32 to an order, four little-endian numbers of 64 bits (block,
-// offset, first byte and length of the stretch). Up to 31 bytes behind the last whole order are ignored.
-pub fn write_order_bytes(st: State, volume: &mut [u8], orders: &[u8], source: &[u8]) -> Written
-    ensures { written_of result volume.new ≡ write_orders st source.now volume.old (orders_in orders.now) }
+// Whether a write moved all its bytes.
+#[tactic(auto, unfolding(block_service::specs::Service::moved_answer, isolation::specs::Runs::is_success))]
+fn succeeded(answer: Result<Moved, Refusal>) -> bool
+    ensures { result ≡ is_success (moved_answer answer) }
 {
-    let n = orders.len() / ORDER_BYTES;
-    let map = st.map;
-    let mut at = begin(st, volume.len(), n);
-    while at.going {
-        let i = at.written.count;
-        let order = order_at(orders, i);
-        at = next(st, &map, volume, order, source, n, i);
-    }
-    at.written
+    matches!(answer, Ok(Moved::All(_)))
 }
 
-// The first orders of an array, as many as it has or fewer.
-fn write_first(
-    st: State,
-    volume: &mut [u8],
-    array: [Order; 64],
-    used: usize,
-    source: &[u8],
-) -> Written
-    requires { used ≤ 64 }
-    ensures { written_of result volume.new ≡ write_orders st source.now volume.old (take used array) }
-{
-    write_orders(st, volume, &array[..used], source)
-}
-
-// Order i of a list that comes as bytes.
-fn order_at(orders: &[u8], i: usize) -> Order
-    requires { i < length orders.now / order_bytes }
-    ensures { result ≡ order_at orders.now i }
-{
-    let at = ORDER_BYTES * i;
-    Order {
-        block: u64_at(orders, at),
-        offset: u64_at(orders, at + 8) as usize,
-        first: u64_at(orders, at + 16) as usize,
-        len: u64_at(orders, at + 24) as usize,
-    }
-}
-
-// The start of a list of n orders, on a volume of so many lent bytes.
-fn begin(st: State, volume_len: usize, n: usize) -> Stage
-    ensures { result ≡ first_stage st volume_len n }
-{
-    if MOST_ORDERS < n {
-        return at_stage(false, 0, Moved::Refused(2));
-    }
-    if n == 0 {
-        return at_stage(false, 0, Moved::Success(0));
-    }
-    let judged = write_refusal(st, volume_len as u64);
-    if let Check::Refused(number) = judged {
-        return at_stage(false, 0, Moved::Refused(number));
-    }
-    at_stage(true, 0, Moved::Success(0))
-}
-
-// The turn of one order of n, after `count` that succeeded, where 111, 5 and 15 are not due.
-fn next(
-    st: State,
-    map: &[u32; 64],
+// One order carried out, where 111, 5 and 15 are not due: 2 for a stretch that leaves the data, then the write.
+fn write_order(
+    state: &State,
     volume: &mut [u8],
     order: Order,
     source: &[u8],
-    n: usize,
-    count: usize,
-) -> Stage
-    requires { (first_refusal (lent_refusals st (length volume.old) write_status) ≡ none) × (count < n) × (map.now ≡ st.map) }
-    ensures { (result_of (moved_answer result.written.last) st volume.new [] ≡ step st volume.old (call_of st source.now order))
-        × (result.written.count ≡ counted (moved_answer result.written.last) count)
-        × (result.going ≡ is_success (moved_answer result.written.last) && ltb (count + 1) n) }
+) -> Result<Moved, Refusal>
+    requires { first_refusal (lent_refusals state.now (length volume.old) write_status) ≡ none }
+    ensures { result_of (moved_answer result) state.now volume.new [] ≡ step state.now volume.old (call_of state.now source.now order) }
 {
-    let last = write_order(st, map, volume, order, source);
-    let with_it = count + 1;
-    match last {
-        Moved::Success(moved) => at_stage(with_it < n, with_it, Moved::Success(moved)),
-        Moved::Short(moved) => at_stage(false, count, Moved::Short(moved)),
-        Moved::Refused(number) => at_stage(false, count, Moved::Refused(number)),
+    let Some(rest) = source.get(order.first..) else {
+        return Err(Refusal::InvalidParameter);
+    };
+    if rest.len() < order.len {
+        return Err(Refusal::InvalidParameter);
     }
-}
-
-// A list that goes on or has ended, with its count and last answer.
-fn at_stage(going: bool, count: usize, last: Moved) -> Stage
-    ensures { result ≡ stage going count last }
-{
-    Stage {
-        going,
-        written: Written { count, last },
-    }
-}
-
-// One order carried out: 2 for a stretch that leaves the data, then the write.
-fn write_order(st: State, map: &[u32; 64], volume: &mut [u8], order: Order, source: &[u8]) -> Moved
-    requires { (first_refusal (lent_refusals st (length volume.old) write_status) ≡ none) × (map.now ≡ st.map) }
-    ensures { result_of (moved_answer result) st volume.new [] ≡ step st volume.old (call_of st source.now order) }
-{
-    let first = order.first;
-    let len = order.len;
-    let n = source.len();
-    if n < first {
-        return Moved::Refused(2);
-    }
-    if n - first < len {
-        return Moved::Refused(2);
-    }
-    let end = first + len;
-    let words: &[u32] = map;
-    let word_end = 2 * st.entries;
     write_judged(
-        st.attributes,
-        st.protected,
-        &words[..word_end],
+        state.attributes,
+        state.protected,
+        state.map_words(),
         volume,
         order.block,
         order.offset,
-        &source[first..end],
+        &rest[..order.len],
     )
 }

@@ -1,40 +1,20 @@
--- `write_orders::write_order` meets its contract: a stretch that leaves the data, or the write of one that does not.
-use Prim.Native.Nat.{◌≤◌}
+-- A stretch that leaves the data, or the write of one that does not.
+use mathlib.Core.Logic.{inl, inr}
 use native.Mathlib.Omega.{arith}
-use mathlib.Core.Path.{◌≡◌, sym}
-use borrow.Author.Rules.{rules}
-use lib.ListN.{length}
-use lib.Seq.{length-take-le}
-use Rattle.volume.specs.BlockMap.{max_entries}
-use Rattle.volume.specs.State.{map_of}
 use Rattle.block_service.specs.Service.{moved_answer}
-use Rattle.block_service.proofs.service.Steps.{begun}
-use Rattle.write_orders.proofs.Turns.{bad_stretch, good_stretch}
+use Rattle.write_orders.proofs.Turns.{bad_stretch, data_rest, good_stretch}
 use Rattle.write_orders.proofs.write_order.Goals as goal
-use Rattle.write_orders.proofs.write_order.Goals.{After-words-1, Else-n-first-2}
 
-few : (c : Else-n-first-2) → c.args.st.entries ≤ max_entries
-few c = (begun _ _ _ c.requires.0).lawful.entries
-
--- the map is an array of 64 words
-map-length : (c : After-words-1) → length c.args.map.now ≡ 64
-map-length c = search rules
-
-pub returns-then-n-first : goal.returns-then-n-first
+pub returns-in_default : goal.returns-in_default
 unfolding moved_answer
-returns-then-n-first c = bad_stretch _ _ c.args.order _ c.requires.0 (omega (arith, c.if-n-first.true))
+returns-in_default c = bad_stretch _ _ c.args.order _ c.requires (elim c.in_default.ensures.lookup.0 [ inl h ↦ omega arith | inr h ↦ absurd (omega arith) ])
 
-pub returns-then-n-first-2 : goal.returns-then-n-first-2
+pub returns-then-rest-order : goal.returns-then-rest-order
 unfolding moved_answer
-returns-then-n-first-2 c = bad_stretch _ _ c.args.order _ c.requires.0 (omega (arith, c.if-n-first-2.true, c.if-n-first.false))
-
-pub overflow_mul-word_end : goal.overflow_mul-word_end
-overflow_mul-word_end c = omega (arith, few (goal.at.overflow_mul-word_end c).Else-n-first-2)
-
-pub slice_bounds-write_judged-end : goal.slice_bounds-write_judged-end
-slice_bounds-write_judged-end c = sym (length-take-le _ _ (omega (arith, few (goal.at.slice_bounds-write_judged-end c).Else-n-first-2, map-length (goal.at.slice_bounds-write_judged-end c).After-words-1)))
+returns-then-rest-order c = bad_stretch _ _ c.args.order _ c.requires (omega (arith, c.in-Some.ensures.lookup.0, c.if-rest-order.true))
 
 pub returns : goal.returns
-unfolding map_of
 returns c =
-    good_stretch _ _ c.args.order _ c.requires.0 _ _ (omega (arith, c.if-n-first-2.false, c.if-n-first.false)) (rw c.requires.1 at c.write_judged.ensures)
+    let rest = c.in-Some.ensures.lookup.0 in
+    good_stretch _ _ c.args.order _ c.requires _ _ (omega (arith, rest, c.if-rest-order.false))
+    (rw (c.map_words.ensures, rest.2, data_rest _ _ rest.0) at c.write_judged.ensures)

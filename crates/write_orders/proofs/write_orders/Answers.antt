@@ -1,21 +1,48 @@
--- `write_orders::write_orders` meets its contract, by the laws of where a list stands between two turns.
-use Rattle.std.proofs.Common.{refl}
-use Rattle.write_orders.proofs.Stages.{start_at, turn_at, end_at}
+-- The list is carried out order by order.
+use mathlib.Core.Path.{◌≡◌, sym, ◌∙◌}
+use native.Mathlib.Omega.{arith}
+use Rattle.std.proofs.lemmas.Grind.{common_steps}
+use Rattle.std.proofs.lemmas.Option.{gets}
+use Rattle.block_service.specs.Service.{moved_answer}
+use Rattle.write_orders.specs.Orders.{written_of}
+use Rattle.write_orders.proofs.Carried.{not_begun, begins, ended, ends_here, goes_on}
+use Rattle.write_orders.proofs.Lists.{too_many}
 use Rattle.write_orders.proofs.write_orders.Goals as goal
 
-pub loop-at-init : goal.loop-at-init
-loop-at-init c = rw c.begin-at.ensures (start_at c.args.st c.args.source.now c.args.volume.now c.args.orders.now)
+pub returns-then-n-gt-MOST_ORDERS : goal.returns-then-n-gt-MOST_ORDERS
+unfolding written_of moved_answer
+returns-then-n-gt-MOST_ORDERS g c = sym (too_many _ _ _ (g.L.OrderList.orders c.args.orders) (omega (arith, c.len-n.ensures)))
 
-pub next-at-requires : goal.next-at-requires
-next-at-requires c = (c.loop-at.invariant.ready c.loop-at-test.true, c.loop-at.invariant.within c.loop-at-test.true, refl)
+pub returns-then-n-eq0 : goal.returns-then-n-eq0
+unfolding written_of moved_answer
+returns-then-n-eq0 g c =
+    ended _ _ _ (g.L.OrderList.orders c.args.orders) 0 _ _ (omega (arith, c.len-n.ensures)) (begins _ _ _ _ (omega (arith, c.len-n.ensures)))
 
-pub loop-at-smaller : goal.loop-at-smaller
-loop-at-smaller c =
-    (turn_at _ _ _ _ _ _ _ _ _ c.loop-at.invariant c.loop-at-test.true c.next-at.ensures.0 c.next-at.ensures.1 c.next-at.ensures.2).1
+pub returns-in-Err : goal.returns-in-Err
+unfolding written_of moved_answer
+returns-in-Err g c =
+    not_begun _ _ _ (g.L.OrderList.orders c.args.orders) _ (omega (arith, c.len-n.ensures)) (λ z. c.if-n-eq0.false (c.len-n.ensures ∙ z)) c.in-Err.ensures
 
-pub loop-at-preserved : goal.loop-at-preserved
-loop-at-preserved c =
-    (turn_at _ _ _ _ _ _ _ _ _ c.loop-at.invariant c.loop-at-test.true c.next-at.ensures.0 c.next-at.ensures.1 c.next-at.ensures.2).0
+pub loop-i-init : goal.loop-i-init
+unfolding moved_answer
+loop-i-init g c = begins _ _ _ (g.L.OrderList.orders c.args.orders) (omega (arith, c.len-n.ensures))
+
+pub unwrap-order-requires : goal.unwrap-order-requires
+unwrap-order-requires g c = grind (arith, common_steps, gets, c.order.ensures, c.len-n.ensures)
+
+pub returns-then-not-succeeded : goal.returns-then-not-succeeded
+unfolding written_of
+returns-then-not-succeeded g c =
+    ends_here _ _ _ (g.L.OrderList.orders c.args.orders) _ _ _ _ _ _ (sym c.unwrap-order.ensures ∙ c.order.ensures) c.loop-i.invariant c.write_order-last.ensures
+    (sym c.succeeded.ensures ∙ c.if-not-succeeded.true)
+
+pub loop-i-preserved : goal.loop-i-preserved
+loop-i-preserved g c =
+    goes_on _ _ _ (g.L.OrderList.orders c.args.orders) _ _ _ _ _ _ (sym c.unwrap-order.ensures ∙ c.order.ensures) c.loop-i.invariant c.write_order-last.ensures
+    (sym c.succeeded.ensures ∙ c.if-not-succeeded.false) c.write_order-last.auto.volume
 
 pub returns : goal.returns
-returns c = end_at _ _ _ _ _ _ c.loop-at.invariant c.loop-at-test.false
+unfolding written_of
+returns g c =
+    let all : c.len-n.result ≡ c.loop-i.i = omega (arith, c.loop-i.auto.i-end) in
+    rw all (ended _ _ _ (g.L.OrderList.orders c.args.orders) _ _ _ (omega (arith, c.len-n.ensures)) c.loop-i.invariant)

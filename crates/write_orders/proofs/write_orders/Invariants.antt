@@ -1,9 +1,7 @@
--- `write_orders::write_orders` meets its contract: at each turn the list stands where the single writes have brought it.
-use Rattle.write_orders.proofs.Stages.{At, measure_of}
+-- What is left after `i` orders that succeeded, of which the last answered `last`, is what the list is.
+use Rattle.block_service.specs.Service.{moved_answer}
+use Rattle.write_orders.proofs.Carried.{Left}
 use Rattle.write_orders.proofs.write_orders.Given as goal
 
-abbrev pub invariant-loop-at : goal.invariant-loop-at
-invariant-loop-at l = At l.st l.source l.initial.volume l.orders l.at l.volume
-
-abbrev pub decreases-loop-at : goal.decreases-loop-at
-decreases-loop-at l = measure_of l.orders l.at
+abbrev pub invariant-loop-i : goal.invariant-loop-i
+invariant-loop-i g l = Left l.state l.source l.initial.volume (g.L.OrderList.orders l.orders) l.i (moved_answer l.last) l.volume

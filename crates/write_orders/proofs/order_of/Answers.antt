@@ -1,6 +1,6 @@
--- `write_orders::order_at` meets its contract.
+-- Each number is read where it stands.
 use Rattle.write_orders.specs.Orders.{order_at}
-use Rattle.write_orders.proofs.order_at.Goals as goal
+use Rattle.write_orders.proofs.order_of.Goals as goal
 
 pub returns : goal.returns
 unfolding order_at

@@ -1,21 +1,55 @@
 -- Laws of orders that come as bytes.
-use Prim.Native.Nat.{ℕ, zero, suc, ◌+◌, ◌*◌, ◌/◌, ◌<◌}
-use mathlib.Core.Bool.{true, ◌&&◌}
-use mathlib.Core.List.{List, [], ◌∷◌, ◌++◌, append_assoc}
-use mathlib.Core.Path.{◌≡◌, refl, sym, ap, ◌∙◌}
-use native.Mathlib.Nat.{zero-add, add-zero}
+use Prim.Native.Nat.{ℕ, zero, suc, ◌+◌, ◌*◌, ◌/◌, ◌≤◌, ◌<◌}
+use mathlib.Core.List.{List, [], ◌∷◌, ◌++◌, map, append_assoc}
+use mathlib.Core.Path.{◌≡◌, refl, sym, ap, ap₂, ◌∙◌}
+use native.Mathlib.Nat.{add-zero}
 use native.Mathlib.Omega.{arith}
-use lib.Dec.{ltb}
-use lib.ListN.{length, get_or, length-append}
+use lib.ListN.{length, get_or, take, drop, take-append-drop, length-append}
+use lib.Seq.{get_or-take, length-take-le}
+use Rattle.std.specs.Simd.{first_chunks}
+use Rattle.std.specs.List.{slice_get}
+use Rattle.std.specs.Option.{option_map}
+use Rattle.std.proofs.lemmas.List.{drop-drop}
+use Rattle.std.proofs.lemmas.Option.{slice_get-map}
 use Rattle.numbers.specs.LittleEndian.{le, le_bytes}
-use Rattle.numbers.proofs.LittleEndian.{le_skip, le-le_bytes, length-le_bytes}
-use Rattle.volume.specs.declared.state.State.{State}
-use Rattle.block_service.specs.Service.{moved_answer, result_of, step}
-use Rattle.isolation.specs.Runs.{is_success}
-use Rattle.write_orders.specs.Orders.{call_of, first_stage, counted, order_bytes, order_at, orders_from, orders_in, bytes_of, list_bytes, Typed}
+use Rattle.numbers.proofs.LittleEndian.{le_same, le_skip, le-le_bytes, length-le_bytes}
+use Rattle.write_orders.specs.Orders.{order_bytes, order_at, orders_from, orders_in, bytes_of, list_bytes, Typed}
 use Rattle.write_orders.specs.declared.Order.{Order}
-use Rattle.write_orders.specs.declared.Stage.{Stage}
-use Rattle.write_orders.proofs.Stages.{At, measure_of, start_at, turn_at}
+
+-- ---- each order is that of 32 bytes by themselves
+
+chunk_number : (s : List ℕ) (p at : ℕ) → p ≤ length s → at + 8 ≤ order_bytes → le 8 (take order_bytes (drop p s)) at ≡ le 8 s (p + at)
+chunk_number s p at h k =
+    let long : length (take p s) ≡ p = length-take-le p s h in
+    let behind : le 8 (take p s ++ drop p s) (length (take p s) + at) ≡ le 8 (drop p s) at = le_skip 8 (take p s) (drop p s) at in
+    le_same 8 (take order_bytes (drop p s)) (drop p s) at (λ i a b. get_or-take order_bytes (drop p s) i 0 (omega arith))
+    ∙ sym (rw (take-append-drop p s, long) at behind)
+
+chunk_order : (s : List ℕ) (i : ℕ) → order_bytes * i ≤ length s → order_at (take order_bytes (drop (order_bytes * i) s)) 0 ≡ order_at s i
+unfolding order_at
+chunk_order s i h =
+    let number : (at : ℕ) → at + 8 ≤ order_bytes → le 8 (take order_bytes (drop (order_bytes * i) s)) at ≡ le 8 s (order_bytes * i + at) = λ at k. chunk_number s (order_bytes * i) at h k in
+    let b = number 0 (omega arith) ∙ ap (le 8 s) (add-zero (order_bytes * i)) in
+    let f = number 8 (omega arith) in
+    let g = number 16 (omega arith) in
+    let n = number 24 (omega arith) in
+    λ j. record { block = b j; offset = f j; first = g j; len = n j }
+
+chunks_from : (k : ℕ) (s : List ℕ) (i : ℕ) → order_bytes * (i + k) ≤ length s
+    → orders_from k s i ≡ map (λ (c : List ℕ). order_at c 0) (first_chunks order_bytes k (drop (order_bytes * i) s))
+unfolding orders_from
+chunks_from zero s i h = refl
+chunks_from (suc k) s i h =
+    let next : drop (order_bytes * (i + 1)) s ≡ drop order_bytes (drop (order_bytes * i) s) =
+    ap (λ (n : ℕ). drop n s) (omega arith) ∙ sym (drop-drop order_bytes (order_bytes * i) s) in
+    ap₂ (λ (o : Order) (os : List Order). o ∷ os) (sym (chunk_order s i (omega arith)))
+    (chunks_from k s (i + 1) (omega arith) ∙ ap (λ (l : List ℕ). map (λ (c : List ℕ). order_at c 0) (first_chunks order_bytes k l)) next)
+
+-- so order i of a list of bytes is that of the i-th 32 of them, where there are so many
+pub order_found : (s : List ℕ) (i : ℕ)
+    → slice_get (orders_in s) i ≡ option_map (λ (c : List ℕ). order_at c 0) (slice_get (first_chunks order_bytes (length s / order_bytes) s) i)
+unfolding orders_in
+order_found s i = ap (λ (l : List Order). slice_get l i) (chunks_from (length s / order_bytes) s 0 (omega arith)) ∙ slice_get-map _ _ i
 
 from-length : (k : ℕ) (s : List ℕ) (i : ℕ) → length (orders_from k s i) ≡ k
 unfolding orders_from
@@ -25,29 +59,6 @@ from-length (suc k) s i = ap suc (from-length k s (i + 1))
 pub orders_length : (s : List ℕ) → length (orders_in s) ≡ length s / order_bytes
 unfolding orders_in
 orders_length s = from-length (length s / order_bytes) s 0
-
-from_at : (k : ℕ) (s : List ℕ) (i j : ℕ) (z : Order) → j < k → get_or (orders_from k s i) j z ≡ order_at s (i + j)
-unfolding orders_from
-from_at zero s i j z h = absurd (omega arith)
-from_at (suc k) s i zero z h = let e : i ≡ i + 0 = omega arith in ap (order_at s) e
-from_at (suc k) s i (suc j) z h = let e : i + 1 + j ≡ i + suc j = omega arith in from_at k s (i + 1) j z (omega arith) ∙ ap (order_at s) e
-
-pub order_listed : (s : List ℕ) (j : ℕ) (z : Order) → j < length s / order_bytes → get_or (orders_in s) j z ≡ order_at s j
-unfolding orders_in
-order_listed s j z h = from_at (length s / order_bytes) s 0 j z h ∙ ap (order_at s) (zero-add j)
-
--- the start and a turn, as `start_at` and `turn_at` have them
-pub start_bytes : (st : State) (d v s : List ℕ) (p : Stage) → p ≡ first_stage st (length v) (length s / order_bytes) → At st d v (orders_in s) p v
-start_bytes st d v s p e = rw (e, sym (orders_length s)) (start_at st d v (orders_in s))
-
-pub turn_bytes : (st : State) (d v₀ v after s : List ℕ) (p next : Stage) (o : Order) → At st d v₀ (orders_in s) p v → p.going ≡ true → o ≡ order_at s p.written.count
-    → (result_of (moved_answer next.written.last) st after [] ≡ step st v (call_of st d o))
-    × (next.written.count ≡ counted (moved_answer next.written.last) p.written.count)
-    × (next.going ≡ is_success (moved_answer next.written.last) && ltb (p.written.count + 1) (length s / order_bytes))
-    → At st d v₀ (orders_in s) next after × (measure_of (orders_in s) next < measure_of (orders_in s) p)
-turn_bytes st d v₀ v after s p next o at on e did =
-    let within : p.written.count < length s / order_bytes = rw (orders_length s) at (at.within on) in
-    turn_at st d v₀ v after (orders_in s) p next o at on (rw (order_listed s p.written.count o within, sym e) did.0) did.1 (rw (orders_length s) did.2)
 
 -- ---- what was put into bytes is read back
 
