@@ -5,3 +5,4 @@ pub mod JobCalls
 pub mod Packed
 pub mod SectionCalls
 pub mod VolumeCalls
+pub mod OrderCalls

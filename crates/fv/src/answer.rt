@@ -4,6 +4,7 @@
     unfolding(
         crate::specs::Answer::answer_stored,
         crate::specs::Answer::entry_words,
+        crate::specs::Answer::last_count,
         common::specs::Answers::number_of,
         common::specs::Answers::values_of,
         block_service::specs::Service::moved_answer,
@@ -21,7 +22,7 @@ ghost use Rattle.dependency.specs.Opcodes.{read_answer};
 ghost use Rattle.sections.specs.Append.{appended_answer};
 ghost use Rattle.sections.specs.Search.{found_answer};
 ghost use Rattle.volume.specs.ExtendedEntry.{entry_answer};
-ghost use Rattle.fv.specs.Answer.{answer_bytes, answer_stored, entry_refusal, entry_words, Gives, moved_refusal, two_stored};
+ghost use Rattle.fv.specs.Answer.{answer_bytes, answer_stored, entry_refusal, entry_words, Gives, last_count, moved_refusal, two_stored};
 
 use block_service::Moved;
 use common::Refusal;
@@ -167,4 +168,24 @@ impl Answered for bool {
     fn outcome(self) -> Outcome {
         Outcome::success(u64::from(self), 0)
     }
+}
+
+// Gives what a list of writes came to: the last answer's number, and, also beside a refusal, how many writes succeeded and the last one's count.
+pub(crate) fn give_list(written: write_orders::Written, answer: &mut [u8]) -> u32
+    requires { answer_bytes ≤ length answer.old }
+    ensures number { result ≡ number_of (moved_answer written.last) }
+    ensures stored { answer.new ≡ two_stored written.count (last_count (moved_answer written.last)) answer.old }
+{
+    let first = written.count as u64;
+    let (number, second) = match written.last {
+        Ok(Moved::All(moved)) => (0, moved as u64),
+        Ok(Moved::Short(moved)) => (4, moved as u64),
+        Err(refusal) => (u32::from(refusal.number()), 0),
+    };
+    Outcome {
+        number,
+        first,
+        second,
+    }
+    .store(answer)
 }

@@ -9,7 +9,7 @@
 mod answer;
 pub mod dependency_calls;
 pub mod job_calls;
-//pub mod order_calls;
+pub mod order_calls;
 mod packed;
 pub mod section_calls;
 pub mod volume_calls;
