@@ -105,8 +105,7 @@ fn next_start(s: &[u8], end: usize) -> Result<usize, Refusal>
         (λ refusal. (refusal ≡ NonzeroPadding) × (zeros s.now end (aligned_of end - end) ≡ false)) }
 {
     let next = aligned(end);
-    let padding = &s[end..next.min(s.len())];
-    if padding.iter().all(|&byte| byte == 0) {
+    if s[end..].iter().take(next - end).all(|&byte| byte == 0) {
         Ok(next)
     } else {
         Err(Refusal::NonzeroPadding)
