@@ -38,7 +38,8 @@ impl Wanted {
     fn visit(&mut self, section: &Section, base: usize) -> Walk
         requires { (base + section.now.first < 2 ^ 64) × (base + section.now.end < 2 ^ 64) }
         ensures same { self.new.section_type ≡ self.old.section_type }
-        ensures visited { carried result self.new ≡ visited self.old.section_type (carried Ended self.old) section.now.section_type (base + section.now.first) (base + section.now.end) }
+        ensures visited { carried result self.new
+            ≡ visited self.old.section_type (carried Ended self.old) section.now.section_type (base + section.now.first) (base + section.now.end) }
     {
         if section.section_type != self.section_type || self.found.is_some() {
             return Walk::Ended;
@@ -105,8 +106,7 @@ fn next_start(s: &[u8], end: usize) -> Result<usize, Refusal>
         (λ refusal. (refusal ≡ NonzeroPadding) × (zeros s.now end (aligned_of end - end) ≡ false)) }
 {
     let next = aligned(end);
-    let padding = &s[end..next.min(s.len())];
-    if padding.iter().all(|&byte| byte == 0) {
+    if s[end..].iter().take(next - end).all(|&byte| byte == 0) {
         Ok(next)
     } else {
         Err(Refusal::NonzeroPadding)
