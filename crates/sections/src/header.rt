@@ -242,9 +242,11 @@ impl Header {
         requires { Lies s.now at self.now 24 × (self.now.section_type ≡ 2) }
         ensures { contents_head self.now at result ≡ holder_of s.now at self.now.section_type self.now.length self.now.size }
     {
-        let fields = at + self.length;
+        let Header { length, size, .. } = *self;
+        let fields = at + length;
         let offset = numbers::u16_of(s[fields + DATA_OFFSET], s[fields + DATA_OFFSET + 1]) as usize;
-        if offset < self.grown(GUID_DEFINED_HEADER) || self.size < offset {
+        let own = self.grown(GUID_DEFINED_HEADER);
+        if offset < own || size < offset {
             return Err(Refusal::WrongContents);
         }
         let attributes = numbers::u16_of(s[fields + ATTRIBUTES], s[fields + ATTRIBUTES + 1]);

@@ -3,6 +3,7 @@ use Prim.Native.Nat.{ℕ, ◌+◌, ◌-◌, ◌%◌, ◌≤◌, ◌<◌}
 use mathlib.Core.Path.{◌≡◌, refl, sym, ap, ◌∙◌}
 use mathlib.Core.Bool.{Bool, true, false, cond, ◌&&◌}
 use mathlib.Core.List.{List, [], ◌∷◌}
+use mathlib.Core.Logic.{◌⊎◌, inl, inr}
 use mathlib.Core.Option.{Option, none, some}
 use native.Mathlib.Omega.{arith}
 use borrow.Author.Tests.{lt-ltb, le-ltb, eq-eqb, ne_eqb}
@@ -203,17 +204,15 @@ module _ (s : List ℕ) (at h z : ℕ) {offset : ℕ} (read : offset ≡ data_of
   holds_too : is_holder (type_info guid_defined).class ≡ true
   holds_too = holds_guid guid_defined refl
 
-  pub guid_204_low : offset < grown h 24 → Fault 204 ≡ holder_of s at guid_defined h z
+  pub guid_204 : (offset < grown h 24) ⊎ ((grown h 24 ≤ offset) × (z < offset)) → Fault 204 ≡ holder_of s at guid_defined h z
   unfolding wrong_contents
-  guid_204_low w = holder_204 _ _ _ _ _ holds_too (rw (lt-ltb (data_offset s (at + h)) (grown h 24) (rw read at w)))
+  guid_204 (inl w) = holder_204 _ _ _ _ _ holds_too (rw (lt-ltb (data_offset s (at + h)) (grown h 24) (rw read at w)))
+  guid_204 (inr (low, w)) =
+      holder_204 _ _ _ _ _ holds_too (rw (le-ltb (data_offset s (at + h)) (grown h 24) (rw read at low), lt-ltb z (data_offset s (at + h)) (rw read at w)))
 
   module _ (low : grown h 24 ≤ offset) where
     is_low : ltb (data_offset s (at + h)) (grown h 24) ≡ false
     is_low = le-ltb _ _ (rw read at low)
-
-    pub guid_204_high : z < offset → Fault 204 ≡ holder_of s at guid_defined h z
-    unfolding wrong_contents
-    guid_204_high w = holder_204 _ _ _ _ _ holds_too (rw (is_low, lt-ltb z (data_offset s (at + h)) (rw read at w)))
 
     module _ (high : offset ≤ z) where
       guid_right : wrong_contents s at guid_defined h z ≡ false

@@ -4,20 +4,16 @@ use mathlib.Core.Path.{◌≡◌, ◌∙◌}
 use native.Mathlib.Omega.{arith}
 use Rattle.numbers.proofs.LittleEndian.{le_two}
 use Rattle.sections.specs.Header.{data_offset}
-use Rattle.sections.proofs.header.Tests.{guid_204_low, guid_204_high, guid_packed, guid_open}
+use Rattle.sections.proofs.header.Tests.{guid_204, guid_packed, guid_open}
 use borrow.Author.Rules.{rules}
 use Rattle.sections.proofs.header.Header.guid_defined_contents.Goals as goal
-use Rattle.sections.proofs.header.Header.guid_defined_contents.Goals.{then-offset-grown-via-then-offset-grown, then-offset-grown-via-else-offset-grown+then-self-offset}
-
-pub returns-then-offset-grown : goal.returns-then-offset-grown
-returns-then-offset-grown c =
-    let told = c.u16_of-offset.ensures ∙ le_two c.args.s.now _ _ (omega arith) in
-    elim c.then-offset-grown.branch [
-      | then-offset-grown-via-then-offset-grown w ↦ rw c.requires.1 (guid_204_low _ _ _ _ told (search rules))
-      | then-offset-grown-via-else-offset-grown+then-self-offset w ↦ rw c.requires.1 (guid_204_high _ _ _ _ told (search rules) (search rules))
-    ]
 
 -- the data offset and the attributes, each from its two bytes
+pub returns-then-offset-own : goal.returns-then-offset-own
+returns-then-offset-own c =
+    rw c.requires.1
+    (guid_204 _ _ _ _ (c.u16_of-offset.ensures ∙ le_two c.args.s.now _ _ (omega arith)) (rw c.grown-own.ensures at c.then-offset-own.either))
+
 pub returns-then-attributes-eq1 : goal.returns-then-attributes-eq1
 returns-then-attributes-eq1 c =
     let told = c.u16_of-attributes.ensures ∙ le_two c.args.s.now _ _ (omega arith) in
