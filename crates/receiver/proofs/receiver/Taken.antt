@@ -1,11 +1,11 @@
 -- What a receiver takes at once comes to the same as its bytes one after the other.
-use Rattle.std.proofs.Common.{◌≡◌, ℕ, zero, suc, ◌+◌, ◌-◌, ◌<◌, ◌≤◌, Bool, true, false, cond, eqb, ltb, List, [], ◌∷◌, length, get_or, take, drop, refl, ap, ◌∙◌, add-zero, add-one, arith, length-drop, get_or-drop, drop-cons, drop-drop, ltb-false, ltb-true, ne_eqb, eqb-true}
+use Rattle.std.proofs.Common.{◌≡◌, ℕ, zero, suc, ◌+◌, ◌-◌, ◌<◌, ◌≤◌, Bool, true, false, cond, eqb, ltb, List, [], ◌∷◌, length, get_or, take, drop, refl, ap, ◌∙◌, arith, length-drop, drop-drop, ltb-false, ltb-true, ne_eqb}
 use lib.Seq.{drop-length}
 use Rattle.sections.specs.Partial.{partial_of, Partial}
 use Rattle.receiver.specs.Place.{with_phase, onwards, Phase, Header, Body, Padding, Complete, Exceeded, Refused, Place}
 use Rattle.receiver.specs.Receiver.{at_place, stepped, fed, looked, padding_step, Receiver}
 use Rattle.receiver.specs.Steps.{Taken, body_place, body_used, header_bytes}
-use Rattle.receiver.proofs.receiver.Fed.{fed-step, fed_exceeded, fed-refused, fed_complete, fed_body, there, fed_none, fed_all}
+use Rattle.receiver.proofs.receiver.Fed.{fed-step, fed_exceeded, fed-refused, fed_complete, fed_body, fed_none, fed_all}
 use Rattle.receiver.proofs.receiver.Sound.{Fits, sound_fits, fits_sound, there_fits, looked_fits, stepped_fits}
 use Rattle.receiver.proofs.receiver.Whole.{look_at, whole_header}
 

@@ -1,5 +1,5 @@
 -- `Receiver::whole_header` meets its contract: by what its bytes say, and then in the body.
-use Rattle.std.proofs.Common.{length, ap, ap₂, ◌∙◌, arith, rules}
+use Rattle.std.proofs.Common.{ap, ap₂, ◌∙◌, rules}
 use Rattle.receiver.specs.Place.{phase_of}
 use Rattle.receiver.specs.Receiver.{receiver_of, looked}
 use Rattle.receiver.specs.Steps.{Taken, header_bytes}
