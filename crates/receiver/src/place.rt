@@ -1,5 +1,5 @@
 // Where in the file a receiver is, and what comes next there.
-ghost use Rattle.std.specs.Prelude.{◌≡◌, ◌-◌, ◌<◌, ◌≤◌};
+ghost use Rattle.std.specs.Prelude.{◌≡◌, ◌<◌, ◌≤◌};
 ghost use Rattle.receiver.specs.Place.{entered, onwards, padding, place_of};
 ghost use Rattle.receiver.specs.Receiver.{padding_step};
 ghost use Rattle.receiver.specs.Steps.{body_place, body_used};

@@ -1,7 +1,7 @@
 // The calls of a receiver: the announcement, a portion, the finish, and the fault found so far.
-ghost use Rattle.std.specs.Prelude.{◌≡◌, ◌+◌, ◌<◌, ◌≤◌, true, length, take, replicate};
+ghost use Rattle.std.specs.Prelude.{◌≡◌, ◌<◌, ◌≤◌, true, length, replicate};
 ghost use Rattle.common.specs.Refusal.{number};
-ghost use Rattle.sections.specs.Partial.{partial_answer, partial_of};
+ghost use Rattle.sections.specs.Partial.{partial_answer};
 ghost use Rattle.receiver.specs.Receiver.{announced, announced_by, announcement_answer, announce_of, fault_answer, fault_of, finish_of, portion_of, received_answer, receiver_of, refused_by, sound};
 ghost use Rattle.receiver.specs.Receiver.{begun, looked, met as met_of, refused as refused_of, stepped};
 ghost use Rattle.receiver.specs.Place.{Complete, Header as HeaderOf, placed};
