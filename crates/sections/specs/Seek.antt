@@ -1,6 +1,6 @@
 -- What the code of the walk carries along while it looks for the section wanted: private to the crate, and no part of what
 -- `search` and `search_first` promise.
-use Rattle.std.specs.Prelude.{ℕ, ◌-◌, Bool, cond, List, [], ◌∷◌, eqb, Option, Some, None, Result, Ok, Err}
+use Rattle.std.specs.Prelude.{ℕ, ◌-◌, Bool, cond, [], ◌∷◌, eqb, Option, Some, None, Result, Ok, Err}
 use Rattle.common.specs.Answers.{Answer, refused, success}
 use Rattle.common.specs.Refusal.{number}
 use Rattle.common.specs.declared.refusal.Refusal.{Refusal}

@@ -38,7 +38,8 @@ impl Wanted {
     fn visit(&mut self, section: &Section, base: usize) -> Walk
         requires { (base + section.now.first < 2 ^ 64) × (base + section.now.end < 2 ^ 64) }
         ensures same { self.new.section_type ≡ self.old.section_type }
-        ensures visited { carried result self.new ≡ visited self.old.section_type (carried Ended self.old) section.now.section_type (base + section.now.first) (base + section.now.end) }
+        ensures visited { carried result self.new
+            ≡ visited self.old.section_type (carried Ended self.old) section.now.section_type (base + section.now.first) (base + section.now.end) }
     {
         if section.section_type != self.section_type || self.found.is_some() {
             return Walk::Ended;

@@ -1,7 +1,7 @@
 -- What a search shows: the code's answer is the definition's; a part that is shown lies inside the stream; an instance of a type is
 -- found exactly when it is below the number of sections of that type; the first fault, and 14.
 use Prim.Native.Nat.{ℕ, zero, suc, ◌+◌, ◌≤◌, ◌<◌}
-use mathlib.Core.Path.{◌≡◌, refl, sym, ap, ◌∙◌}
+use mathlib.Core.Path.{◌≡◌, refl, ap, ◌∙◌}
 use mathlib.Core.Bool.{Bool, true, false, cond}
 use mathlib.Core.List.{List, [], ◌∷◌}
 use mathlib.Core.Logic.{◌↔◌}

@@ -1,18 +1,17 @@
 -- Laws of what the code of the walk carries along: what a section does to it, an end of the walk stays, two walks in a row are run one after
 -- the other, and what is carried to the end of a walk answers the search and the search for the first.
-use Prim.Native.Nat.{ℕ, zero, suc, ◌-◌, ◌<◌}
-use mathlib.Core.Path.{◌≡◌, refl, sym, ◌∙◌}
-use mathlib.Core.Bool.{Bool, true, false, not, cond}
+use Prim.Native.Nat.{ℕ, zero, suc, ◌-◌}
+use mathlib.Core.Path.{◌≡◌, refl, sym}
+use mathlib.Core.Bool.{Bool, true, false}
 use mathlib.Core.Option.{some}
 use native.Mathlib.Omega.{arith}
-use mathlib.Core.List.{List, [], ◌∷◌}
-use borrow.Author.Tests.{eq-eqb, ne_eqb, eqb-true, eqb-false}
+use borrow.Author.Tests.{ne_eqb}
 use lib.Dec.{eqb}
 use lib.ListN.{get_elem?}
 use Rattle.std.specs.Prelude.{Option as OptionOf, None, Some}
-use Rattle.std.specs.Option.{is_some, ok_or, option_or}
+use Rattle.std.specs.Option.{is_some, ok_or}
 use Rattle.common.specs.declared.refusal.Refusal.TheVariants.{NotFound}
-use Rattle.common.specs.Answers.{Answer, refused, success}
+use Rattle.common.specs.Answers.{Answer, refused}
 use Rattle.common.specs.Refusals.{unless_refused}
 use Rattle.sections.specs.Walk.{Trace, done, fault, section, and_then}
 use Rattle.sections.specs.Seek.{Seek, Refused, Left, Met, Stopped, visited, halted, run, going, carried, seek_answer}

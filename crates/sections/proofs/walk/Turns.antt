@@ -9,11 +9,10 @@ use Rattle.std.specs.Prelude.{Option as OptionOf, None, Some}
 use Rattle.std.specs.Option.{is_some}
 use Rattle.sections.specs.Header.{Fault, opened, head_at}
 use Rattle.sections.specs.Walk.{Trace, done, section, and_then, aligned, zeros, part, after_padding, walk}
-use Rattle.sections.specs.Seek.{Seek, Refused, visited, halted, run, carried}
+use Rattle.sections.specs.Seek.{Seek, visited, halted, run}
 use Rattle.sections.specs.declared.header.Mode.{Mode}
 use Rattle.sections.specs.declared.header.Section.{Section}
-use Rattle.sections.specs.declared.walk.Wanted.{Wanted}
-use Rattle.sections.proofs.walk.Carried.{Final, carried_fault, run_then}
+use Rattle.sections.proofs.walk.Carried.{Final, run_then}
 use Rattle.sections.proofs.walk.Padding.{padding_zero, padding_207}
 use Rattle.sections.proofs.walk.Starts.{walk_from, walk-from_start, walk_end, walk_fault, walk_closed, walk_205, walk_open}
 

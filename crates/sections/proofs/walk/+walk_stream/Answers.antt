@@ -1,13 +1,11 @@
 -- `walk_stream` meets its contract, turn by turn.
-use Prim.Native.Nat.{ℕ, ◌+◌, ◌-◌}
+use Prim.Native.Nat.{ℕ}
 use mathlib.Core.Path.{◌≡◌, refl, sym, ◌∙◌}
-use mathlib.Core.Bool.{true, false}
-use native.Mathlib.Omega.{arith}
-use borrow.Author.Rules.{rules}
+use mathlib.Core.Bool.{true}
 use Rattle.std.specs.Option.{is_some}
 use Rattle.std.proofs.lemmas.Bool.{false≢true}
 use Rattle.std.proofs.lemmas.Result.{err_from_is_err_and}
-use Rattle.sections.specs.Seek.{visited, run, carried}
+use Rattle.sections.specs.Seek.{run, carried}
 use Rattle.sections.specs.declared.walk.Walk.TheVariants.{Ended}
 use Rattle.sections.proofs.walk.Carried.{carried_fault, ended_refused, ended_stopped}
 use Rattle.sections.proofs.walk.Turns.{inner, no_inner, going_start, going_end, turn_fault, turn_205, turn_stop, turn_children, turn_next, turn_207}
@@ -35,7 +33,7 @@ returns-then-below-eq0-clause-walked t c =
 deep : (t : ℕ) (c : After-visit t) → is_some c.in_ok-section.section.contents ≡ true → c.args.below ≡ 0 → ⊥
 deep t c some zero =
     elim c.else-is_some.branch [
-      else-is_some-via-then-is_some+else-below-eq0 w ↦ w.if-below-eq0.false zero
+      | else-is_some-via-then-is_some+else-below-eq0 w ↦ w.if-below-eq0.false zero
       | else-is_some-via-else-is_some w ↦ false≢true (w.if-is_some.ensures ∙ some)
     ]
 
@@ -69,7 +67,7 @@ joined : (t : ℕ) (c : After-next_start t) → (c.match-section.wanted.section_
 joined t c =
     let kept = c.in_default.ensures.same ∙ c.loop-at.invariant.same in
     elim c.match-section.branch [
-      in-Some+in_ok-walk_stream+in_default-2 w ↦
+      | in-Some+in_ok-walk_stream+in_default-2 w ↦
           rw (w.wanted-is, w.in-Some.is) (w.in_ok-walk_stream.ensures.same ∙ kept, rw (kept, w.in_default-2.is) at w.in_ok-walk_stream.ensures.walked)
       | in_default-contents w ↦ rw w.wanted-is (kept, no_inner _ _ _ _ _ _ _ _ w.in_default-contents.not-Some)
     ]

@@ -1,5 +1,5 @@
 -- `next_start` meets its contract: the bytes of the padding that are there are zero, or one is not.
-use Prim.Native.Nat.{ℕ, ◌-◌}
+use Prim.Native.Nat.{◌-◌}
 use mathlib.Core.Path.{◌≡◌, sym, ap, ◌∙◌}
 use lib.Dec.{eqb}
 use lib.ListN.{take, drop}
