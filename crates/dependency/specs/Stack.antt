@@ -8,7 +8,6 @@ use Rattle.common.specs.Answers.{Answer}
 use Rattle.common.specs.Refusal.{number}
 use Rattle.common.specs.Refusals.{first_refusal}
 use Rattle.common.specs.declared.refusal.Refusal.{Refusal}
-use Rattle.dependency.specs.Opcodes as opcodes
 use Rattle.dependency.specs.Opcodes.{Kind, version, truth, Installed, known, end_code, row_of}
 use Rattle.dependency.specs.Expression.{ended}
 use Rattle.dependency.specs.Validation.{result_kinds, kinds_after, on_top, stack_refusals, stack_limit, fault_from, validity}

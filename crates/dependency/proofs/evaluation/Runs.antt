@@ -1,11 +1,11 @@
 -- One turn of the evaluation: the bytes that are left pass the test at the kinds of the stack, and say what the whole says.
-use Prim.Native.Nat.{ℕ, ◌+◌, ◌-◌, ◌≤◌, ◌<◌}
+use Prim.Native.Nat.{ℕ, ◌-◌, ◌≤◌, ◌<◌}
 use mathlib.Core.Path.{◌≡◌, refl, sym, ap, ap₂, ◌∙◌}
 use mathlib.Core.Bool.{Bool, true, false, not}
 use mathlib.Core.List.{List, [], ◌∷◌}
 use mathlib.Core.Option.{Option, none, some, some-ne-none}
 use native.Mathlib.Omega.{arith}
-use lib.Dec.{eqb, lit≤}
+use lib.Dec.{eqb}
 use lib.ListN.{length, take, drop, length-drop, length-append}
 use borrow.Author.Tests.{lt-ltb, le-ltb}
 use Rattle.std.specs.Prelude as std
@@ -18,9 +18,9 @@ use Rattle.common.specs.Refusals.{first_refusal}
 use Rattle.dependency.specs.Opcodes.{Kind, truth, Installed, OpcodeRow, known, end_code, opcodes, row_among, row_of, code_of, operand_of, read_opcode}
 use Rattle.dependency.specs.Expression.{Reading, ended, next, reading}
 use Rattle.dependency.specs.Installed.{installed_in}
-use Rattle.dependency.specs.Validation.{stack_limit, result_kinds, kinds_after, stack_refusals, is_one_truth, fault_from, validity, validated_answer, validate_of}
+use Rattle.dependency.specs.Validation.{stack_limit, result_kinds, kinds_after, stack_refusals, is_one_truth, fault_from, validity, validate_of}
 use Rattle.dependency.specs.Evaluation.{Cell, value_on, step, run, is_missing, lacks, truth_number, outcome, evaluate_of, evaluated_answer}
-use Rattle.dependency.specs.Stack.{found_version, number_cell, cells_of, Given, Gives, Fits, Stepped}
+use Rattle.dependency.specs.Stack.{found_version, number_cell, cells_of, Gives, Fits, Stepped}
 use Rattle.dependency.specs.declared.opcodes.Opcode.{Opcode}
 use Rattle.dependency.specs.declared.opcodes.Opcode.TheVariants as O
 use Rattle.dependency.proofs.Expression.{reads_fault, reads_ended, reads_next}
