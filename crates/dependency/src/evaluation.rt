@@ -48,7 +48,7 @@ pub fn evaluate(
 
 // The evaluation of an expression that passed the test. So no opcode takes more than there is, takes another kind than it asks for,
 // or leaves more than fits, and neither the stack's depth nor its kinds are tested again. The reader cannot refuse here, and there
-// is an end.
+// is an end. The walk over the opcodes stands here and in `validate`: an iterator would be a struct and an impl for these lines.
 fn run(expression: &[u8], installed: &Installed) -> Result<bool, Refusal>
     requires { fault_from (reading expression.now) [] ≡ none }
     ensures { evaluated_answer result ≡ outcome (first_with installed.now.rows.now installed.now.versions.now) (reading expression.now) [] }
