@@ -7,7 +7,7 @@ ghost use Rattle.volume.specs.Header.{bytes_refusals, fields_refusals, header_le
 ghost use Rattle.volume.specs.BlockMap.{entry_length};
 
 use crate::attributes::{attributes_fault, base_fault, edition_fault};
-use crate::block_map::{EMPTY_HEADER, ENTRY_LENGTH, count_blocks, has_zero, map_fault};
+use crate::block_map::{EMPTY_HEADER, ENTRY_LENGTH, has_zero, map_fault};
 use crate::extended_header::ext_fault;
 use crate::state::State;
 use common::Refusal;
@@ -81,18 +81,19 @@ fn state_at(s: &[u8], base: u64) -> State
     ensures { result ≡ state_at s.now base }
 {
     let entries = (usize::from(numbers::u16_at(s, HEADER_LENGTH)) - EMPTY_HEADER) / ENTRY_LENGTH;
-    let mut map = [0u32; 64];
-    read_map(s, entries, &mut map);
-    State {
+    let mut state = State {
         guid: guid_at(s),
         length: numbers::u64_at(s, LENGTH),
         attributes: numbers::u32_at(s, ATTRIBUTES),
         edition: u32::from(numbers::byte_at(s, REVISION)),
         base,
-        protected: count_blocks(&map[..2 * entries]),
+        protected: 0,
         entries,
-        map,
-    }
+        map: [0; 64],
+    };
+    read_map(s, entries, &mut state.map);
+    state.protected = state.block_count();
+    state
 }
 
 // The table's other rows, 106 to 110 and 112, of what the state would be.
