@@ -1,9 +1,8 @@
 -- Laws of an erase list that comes as bytes: how many words it has, and which.
-use Prim.Native.Nat.{ℕ, zero, suc, ◌+◌, ◌-◌, ◌*◌, ◌/◌, ◌%◌, ◌≤◌, ◌<◌}
+use Prim.Native.Nat.{ℕ, zero, suc, ◌+◌, ◌*◌, ◌/◌, ◌%◌, ◌≤◌, ◌<◌}
 use mathlib.Core.List.{List, ◌∷◌, ◌++◌}
 use mathlib.Core.Path.{◌≡◌, refl, sym, ap, ap₂, ◌∙◌}
 use native.Mathlib.Omega.{arith}
-use native.Mathlib.Nat.{add-zero, add-sub_cancel_left}
 use lib.ListN.{length, get_or, take, drop, take-append-drop, length-append, get_or-append, get_or-eq_default}
 use lib.Seq.{get_or-take, length-take-le}
 use Rattle.numbers.specs.LittleEndian.{le}

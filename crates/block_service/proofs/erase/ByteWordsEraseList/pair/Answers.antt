@@ -27,7 +27,7 @@ pub returns : goal.returns
 returns c =
     let s = c.args.self.0.now in
     let past : length s / 8 ≤ 2 * c.args.j = elim c.else-j-bytes-2.branch [
-        | else-j-bytes-2-via-then-j-bytes-2+else-bytes-ge8 w ↦ omega (arith, w.if-bytes-ge8.false, w.if-j-bytes-2.true)
-        | else-j-bytes-2-via-else-j-bytes-2 w ↦ omega (arith, w.if-j-bytes-2.false)
-      ] in
+      | else-j-bytes-2-via-then-j-bytes-2+else-bytes-ge8 w ↦ omega (arith, w.if-bytes-ge8.false, w.if-j-bytes-2.true)
+      | else-j-bytes-2-via-else-j-bytes-2 w ↦ omega (arith, w.if-j-bytes-2.false)
+    ] in
     (word_past s (2 * c.args.j) past, word_past s (2 * c.args.j + 1) (omega arith))
