@@ -9,25 +9,18 @@ ghost use Rattle.std.specs.Prelude.{◌≡◌};
 ghost use Rattle.example.specs.Mask.{masked, put_mask};
 ghost use Rattle.block_service.specs.Service.{moved_answer};
 
-use block_service::{END_OF_LIST, Erased, Moved, erase_blocks, write};
-use volume::{Opening, open_volume};
+use block_service::{END_OF_LIST, Moved, Words, erase_blocks, write};
+use common::Refusal;
+use volume::open_volume;
 
 // Opens the volume, erases the block of the mask and writes the new mask at its start. A volume that does not open
 // answers opening's own number, a refused erase the erase's, and no byte changes then: a mask is never written over a
 // block that was not erased. Else the answer is the write's: the number of bytes that fit the block.
-pub fn put_mask(volume: &mut [u8], base: u64, block: u64, mask: &[u8]) -> Moved
+pub fn put_mask(volume: &mut [u8], base: u64, block: u64, mask: &[u8]) -> Result<Moved, Refusal>
     ensures { masked (moved_answer result) volume.new ≡ put_mask volume.old base block mask.now }
 {
-    let opened = open_volume(volume, base);
-    let opening = opened.answer;
-    if let Opening::Refused(n) = opening {
-        return Moved::Refused(n);
-    }
-    let state = opened.state;
+    let state = open_volume(volume, base)?;
     let list = [block, 1, END_OF_LIST];
-    let erased = erase_blocks(state, volume, &list);
-    if let Erased::Refused(n) = erased {
-        return Moved::Refused(n);
-    }
-    write(state, volume, block, 0, mask)
+    erase_blocks(&state, volume, Words(&list))?;
+    write(&state, volume, block, 0, mask)
 }

@@ -1,11 +1,10 @@
 -- A list of orders that is carried out in a loop: how it begins, what a turn leaves, and how it ends, in the form in which the code meets it.
-use Prim.Native.Nat.{ℕ, zero, suc, ◌+◌, ◌≤◌, ◌<◌}
-use mathlib.Core.Bool.{Bool, true, false, cond}
+use Prim.Native.Nat.{ℕ, suc, ◌+◌, ◌≤◌}
+use mathlib.Core.Bool.{true, false, cond}
 use mathlib.Core.List.{List, [], ◌∷◌}
-use mathlib.Core.Option.{none, some}
+use mathlib.Core.Option.{some}
 use mathlib.Core.Path.{◌≡◌, refl, sym, ap, ◌∙◌}
 use native.Mathlib.Omega.{arith}
-use borrow.Author.Tests.{lt-ltb}
 use lib.ListN.{length, drop, drop_of_length-le}
 use Rattle.std.specs.Prelude.{Some}
 use Rattle.std.specs.List.{slice_get}
@@ -17,7 +16,7 @@ use Rattle.volume.specs.Attributes.{write_status}
 use Rattle.volume.specs.declared.state.State.{State}
 use Rattle.block_service.specs.Service.{lent_refusals, Result, result_of, step}
 use Rattle.isolation.specs.Runs.{is_success}
-use Rattle.write_orders.specs.Orders.{call_of, Batch, batch, writes_from, nothing_yet, most_orders, write_orders}
+use Rattle.write_orders.specs.Orders.{call_of, batch, writes_from, nothing_yet, most_orders, write_orders}
 use Rattle.write_orders.specs.declared.Order.{Order}
 use Rattle.write_orders.proofs.Lists.{within_limit}
 use Rattle.write_orders.proofs.Turns.{lent_refused}
