@@ -6,7 +6,10 @@
         write_orders::specs::Orders::written_of,
         common::specs::Refusals::first_refusal
     ),
-    using(std::proofs::lemmas::Bool::Decides::nat_tests)
+    using(
+        std::proofs::lemmas::Bool::Decides::nat_tests,
+        crate::proofs::packed::Packing::unpacked_front
+    )
 )]
 
 ghost use Rattle.std.specs.Prelude.{[], ◌∷◌, ◌≡◌};

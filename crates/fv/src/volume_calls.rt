@@ -14,7 +14,10 @@
         common::specs::Answers::number_of,
         common::specs::Answers::values_of
     ),
-    using(std::proofs::lemmas::Bool::Decides::nat_tests)
+    using(
+        std::proofs::lemmas::Bool::Decides::nat_tests,
+        crate::proofs::packed::Packing::unpacked_front
+    )
 )]
 
 ghost use Rattle.std.specs.Prelude.{[], ◌∷◌, ◌≡◌};

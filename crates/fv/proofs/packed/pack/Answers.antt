@@ -20,5 +20,5 @@ pub returns : goal.returns
 returns c =
     let st = c.args.state.now in
     let g = guid_length (goal.at.returns c).Start in
-    let stored = pack_stored st (replicate 304 0) g _ _ _ _ _ _ c.store_bytes.ensures c.store.ensures c.store-2.ensures c.store_pair.ensures c.store_pair-2.ensures c.store_map.ensures in
+    let stored = pack_stored st (replicate 304 0) g _ _ _ _ _ _ c.store_bytes.ensures c.store.ensures c.store-2.ensures (rw (c.from.ensures, c.from-2.ensures) at c.store_pair.ensures) c.store_pair-2.ensures c.store_map.ensures in
     pack_done st (replicate 304 0) _ c.args.room.now _ refl g (map-length (goal.at.returns c).Start) stored c.copy_from_slice.ensures.after

@@ -4,4 +4,4 @@ use Rattle.volume.specs.Header.{words_at}
 use Rattle.fv.proofs.packed.words_in.Given as goal
 
 abbrev pub invariant-loop-i : goal.invariant-loop-i
-invariant-loop-i g l = (length l.words ≡ g.N) × (take l.i l.words ++ drop l.i (words_at g.N l.s l.at) ≡ words_at g.N l.s l.at)
+invariant-loop-i g l = (length l.words ≡ g.row.N) × (take l.i l.words ++ drop l.i (words_at g.row.N l.s l.at) ≡ words_at g.row.N l.s l.at)
