@@ -6,7 +6,7 @@ ghost use Rattle.std.specs.Prelude.{◌≤◌, ◌<◌, IfOk, IfSome, OnOk, leng
 ghost use Rattle.std.specs.Io.KnownBytes.{Appends, Consumes, IsAtEnd};
 ghost use Rattle.listing.specs.Listing.{listing};
 
-use listing::{Listed, list_volume};
+use listing::list_volume;
 use std::io;
 use std::io::{Read, Write};
 
@@ -25,11 +25,10 @@ fn list<R: Read, W: Write>(from: &mut R, to: &mut W) -> io::Result<()>
     let mut input = [0u8; INPUT];
     let n = read_full(from, &mut input)?;
     let mut text = [0u8; 4096];
-    let listed = list_volume(&input[..n], &mut text);
-    match listed {
-        Listed::Success(k) => to.write_all(&text[..k]),
+    match list_volume(&input[..n], &mut text) {
+        Ok(k) => to.write_all(&text[..k]),
         // No listing is longer than the room: `unreachable` asks for a proof of that.
-        Listed::Refused(_) => unreachable!(),
+        Err(_) => unreachable!(),
     }
 }
 

@@ -9,7 +9,18 @@ use Rattle.common.specs.Refusals.{Row, row, first_refusal, unless_refused}
 use Rattle.numbers.specs.LittleEndian.{le_bytes}
 use Rattle.volume.specs.Attributes.{attributes_fault}
 use Rattle.volume.specs.BlockMap.{header_length, has_zero, size_fault}
+use Rattle.volume.specs.declared.header_writer.Edition.{Edition}
+use Rattle.volume.specs.declared.header_writer.Edition.TheVariants as E
 use Rattle.volume.specs.Header.{signature, word_modulus, word_sum}
+
+-- an edition as the code has it: the header's revision, and "the offset of an extended header (0 for none)", which edition 1 has not
+abbrev pub revision_of : Edition → ℕ
+revision_of E.Framework = 1
+revision_of (E.Pi offset) = 2
+
+abbrev pub offset_of : Edition → ℕ
+offset_of E.Framework = 0
+offset_of (E.Pi offset) = offset
 
 -- the number of entries of a list of map words
 abbrev pub pairs : List ℕ → ℕ

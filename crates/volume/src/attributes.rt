@@ -47,54 +47,37 @@ const ALIGNMENT_2: u32 = 0x10000;
 pub fn is_set(attributes: u32, bit: u32) -> bool
     ensures { result ≡ flag attributes bit }
 {
-    if bit == 0 {
-        return false;
-    }
-    attributes / bit % 2 == 1
+    bit != 0 && attributes / bit % 2 == 1
 }
 
 // Whether a header's revision is none of the editions.
+#[tactic(auto, unfolding(crate::specs::Attributes::known_edition), using(std::proofs::lemmas::Bool::Decides::nat_tests))]
 pub(crate) fn edition_fault(edition: u32) -> bool
     ensures { result ≡ not (known_edition edition) }
 {
-    if edition == 1 {
-        return false;
-    }
-    edition != 2
+    edition != 1 && edition != 2
 }
 
 // Whether attributes break an edition's rule 108: in edition 1 a bit that must be zero is set, or an alignment without
 // the alignment capability; in edition 2 a reserved bit is set.
+#[tactic(auto, unfolding(crate::specs::Attributes::attributes_fault, common::specs::Refusals::any), using(std::proofs::lemmas::Bool::Decides::nat_tests))]
 pub(crate) fn attributes_fault(edition: u32, a: u32) -> bool
     ensures { result ≡ attributes_fault edition a }
 {
     if edition == 2 {
         return a & RESERVED_BITS != 0;
     }
-    if is_set(a, 0x100) {
-        return true;
-    }
-    if is_set(a, 0x1000) {
-        return true;
-    }
-    if is_set(a, 0x2000) {
-        return true;
-    }
-    if is_set(a, 0x4000) {
-        return true;
-    }
-    if is_set(a, ALIGNMENT_CAP) {
-        return false;
-    }
-    a / ALIGNMENT_2 != 0
+    is_set(a, 0x100)
+        || is_set(a, 0x1000)
+        || is_set(a, 0x2000)
+        || is_set(a, 0x4000)
+        || !is_set(a, ALIGNMENT_CAP) && a / ALIGNMENT_2 != 0
 }
 
 // Whether attributes and base break rule 110: memory mapped, and the base no multiple of 8.
+#[tactic(auto, unfolding(crate::specs::Attributes::base_fault), using(std::proofs::lemmas::Bool::Decides::nat_tests))]
 pub(crate) fn base_fault(a: u32, base: u64) -> bool
     ensures { result ≡ base_fault a base }
 {
-    if is_set(a, MEMORY_MAPPED) {
-        return base % 8 != 0;
-    }
-    false
+    is_set(a, MEMORY_MAPPED) && base % 8 != 0
 }

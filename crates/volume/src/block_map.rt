@@ -21,37 +21,23 @@ pub(crate) fn header_length(n: usize) -> usize
     EMPTY_HEADER + ENTRY_LENGTH * n
 }
 
-// Whether some word is zero. The words are gathered without a way out of the loop, so that it compiles to vector code.
+// Whether some word is zero. The loop has no way out at the first, so that it compiles to vector code: `iter().any(..)` has one, and
+// `filter(..).count()` branches at each word.
 pub(crate) fn has_zero(words: &[u32]) -> bool
     ensures { result ≡ has_zero words.now }
 {
-    let mut found: u32 = 0;
-    let mut i = 0;
-    while i < words.len() {
-        found = found | zero_mark(words[i]);
-        i += 1;
+    let mut found = false;
+    for word in words {
+        found |= *word == 0;
     }
-    found != 0
+    found
 }
 
-// Not zero for a zero word, and 0 for any other.
-fn zero_mark(word: u32) -> u32
-    ensures { (result == 0) ≡ not (word == 0) }
-{
-    if word == 0 { 1 } else { 0 }
-}
-
-// Whether every word is zero. The words are gathered as above.
+// Whether every word is zero. The words are gathered, for the same reason.
 pub(crate) fn all_zero(words: &[u32]) -> bool
     ensures { result ≡ all_zero words.now }
 {
-    let mut gathered: u32 = 0;
-    let mut i = 0;
-    while i < words.len() {
-        gathered = gathered | words[i];
-        i += 1;
-    }
-    gathered == 0
+    words.iter().fold(0, |gathered, word| gathered | *word) == 0
 }
 
 // The number of blocks of a map's words: the sum of the entries' counts.
@@ -69,23 +55,22 @@ pub(crate) fn count_blocks(words: &[u32]) -> u64
 
 // Whether a map of these words and a volume of `len` bytes break rule 106, by a zero word, or rule 107, or a first protected block is past the number
 // of blocks, as rule 111 has it (0 never is): one pass over the entries for all three.
+#[tactic(auto, unfolding(crate::specs::BlockMap::size_fault, common::specs::Refusals::any), using(std::proofs::lemmas::Bool::Decides::nat_tests))]
 pub(crate) fn map_fault(words: &[u32], len: u64, protected: u64) -> bool
     requires { length words.now % 2 ≡ 0 }
     ensures { result ≡ (has_zero words.now || (size_fault (length words.now / 2) words.now len || nat_lt (blocks words.now) protected)) }
 {
     let entries = words.len() / 2;
-    if entries == 0
+    entries == 0
         || MAX_ENTRIES < entries
         || MAX_LENGTH < len
         || len < header_length(entries) as u64
-    {
-        return true;
-    }
-    totals_fault(words, len, protected)
+        || totals_fault(words, len, protected)
 }
 
 // A zero word, too many blocks, counts times lengths that don't total the length, or fewer blocks than the first protected
 // one. The totals are true sums: 32 counts and 32 sizes of at most 16,777,216 bytes fit 64 bits.
+#[tactic(auto, using(std::proofs::lemmas::Bool::Decides::nat_tests, crate::proofs::block_map::Words::blocks_entry, crate::proofs::block_map::Words::bytes_entry, crate::proofs::block_map::Words::blocks_end, crate::proofs::block_map::Words::bytes_end, crate::proofs::block_map::Words::has_zero_end, crate::proofs::block_map::Words::zero_size, crate::proofs::block_map::Words::nonzero_size, crate::proofs::block_map::Words::product_fits))]
 fn totals_fault(words: &[u32], len: u64, protected: u64) -> bool
     requires { (length words.now % 2 ≡ 0) × (length words.now ≤ 2 * max_entries) × (len ≤ max_length) }
     ensures { result ≡ (has_zero words.now || (nat_lt max_blocks (blocks words.now) || (not (bytes words.now == len) || nat_lt (blocks words.now) protected))) }
@@ -101,8 +86,5 @@ fn totals_fault(words: &[u32], len: u64, protected: u64) -> bool
         blocks_so_far += count;
         bytes_so_far += size;
     }
-    if MAX_BLOCKS < blocks_so_far || bytes_so_far != len {
-        return true;
-    }
-    blocks_so_far < protected
+    MAX_BLOCKS < blocks_so_far || bytes_so_far != len || blocks_so_far < protected
 }

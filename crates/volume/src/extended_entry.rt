@@ -24,7 +24,7 @@ pub fn ext_entry(volume: &[u8], number: u64) -> Result<ExtEntry, Refusal>
     if state.edition != 2 {
         return Err(Refusal::NotFound);
     }
-    let offset = numbers::u16_at(volume, EXT_HEADER_OFFSET) as usize;
+    let offset = usize::from(numbers::u16_at(volume, EXT_HEADER_OFFSET));
     if offset == 0 {
         return Err(Refusal::NotFound);
     }
@@ -33,6 +33,7 @@ pub fn ext_entry(volume: &[u8], number: u64) -> Result<ExtEntry, Refusal>
 }
 
 // The entry of this number among those from a place up to an end, none of which is at fault.
+#[tactic(auto, unfolding(crate::specs::ExtendedEntry::entry_answer), using(crate::proofs::extended_entry::Numbered::first_asked, crate::proofs::extended_entry::Numbered::later_asked, crate::proofs::extended_entry::Numbered::none_asked, crate::proofs::extended_header::Entries::next, crate::proofs::extended_header::Entries::good_within))]
 fn entry_from(s: &[u8], from: usize, end: usize, number: u64) -> Result<ExtEntry, Refusal>
     requires { entries_faulty (entries_from s.now from end) ≡ false }
     ensures { entry_answer result ≡ entry_of (entries_listed (entries_from s.now from end)) number }
@@ -49,7 +50,7 @@ fn entry_from(s: &[u8], from: usize, end: usize, number: u64) -> Result<ExtEntry
             });
         }
         left -= 1;
-        at += size as usize;
+        at += usize::from(size);
     }
     Err(Refusal::NotFound)
 }

@@ -18,17 +18,19 @@ const SHORTEST_EXT_HEADER: usize = 20;
 const SHORTEST_ENTRY: usize = 4;
 
 // Whether a volume of this edition breaks rule 112, the header having `header` bytes and the volume `len`. Edition 1 has no extended header.
+#[tactic(auto, unfolding(crate::specs::ExtendedHeader::ext_fault, crate::specs::ExtendedHeader::ext_offset), using(std::proofs::lemmas::Bool::Decides::nat_tests))]
 pub(crate) fn ext_fault(s: &[u8], edition: u32, header: usize, len: usize) -> bool
     ensures { result ≡ ext_fault s.now header len (ext_offset edition s.now) }
 {
     if edition != 2 {
         return false;
     }
-    let offset = numbers::u16_at(s, EXT_HEADER_OFFSET) as usize;
+    let offset = usize::from(numbers::u16_at(s, EXT_HEADER_OFFSET));
     offset_fault(s, header, len, offset)
 }
 
 // The same of the extended header at an offset. Offset 0 is none.
+#[tactic(auto, unfolding(crate::specs::ExtendedHeader::ext_fault, common::specs::Refusals::any), using(std::proofs::lemmas::Bool::Decides::nat_tests))]
 fn offset_fault(s: &[u8], header: usize, len: usize, offset: usize) -> bool
     requires { offset < 2 ^ 16 }
     ensures { result ≡ ext_fault s.now header len offset }
@@ -36,40 +38,25 @@ fn offset_fault(s: &[u8], header: usize, len: usize, offset: usize) -> bool
     if offset == 0 {
         return false;
     }
-    if offset < header {
-        return true;
-    }
     let from = offset + EXT_ENTRIES;
-    if len < from {
+    if offset < header || len < from {
         return true;
     }
     let size = numbers::u32_at(s, offset + EXT_SIZE) as usize;
-    if size < SHORTEST_EXT_HEADER {
-        return true;
-    }
     let end = offset + size;
-    if len < end {
-        return true;
-    }
-    entries_fault(s, from, end)
+    size < SHORTEST_EXT_HEADER || len < end || entries_fault(s, from, end)
 }
 
 // Whether an entry from a place up to an end is under 4 bytes, cut or past the end. Each turn goes on by the entry's size.
+#[tactic(auto, using(crate::proofs::extended_header::Entries::small_faulty, crate::proofs::extended_header::Entries::past_faulty, crate::proofs::extended_header::Entries::next_faulty, crate::proofs::extended_header::Entries::end_faulty))]
 fn entries_fault(s: &[u8], from: usize, end: usize) -> bool
     requires { from ≤ end }
     ensures { result ≡ entries_faulty (entries_from s.now from end) }
 {
     let mut at = from;
     while at < end {
-        let left = end - at;
-        if left < SHORTEST_ENTRY {
-            return true;
-        }
-        let size = numbers::u16_at(s, at) as usize;
-        if size < SHORTEST_ENTRY {
-            return true;
-        }
-        if left < size {
+        let size = usize::from(numbers::u16_at(s, at));
+        if size < SHORTEST_ENTRY || end - at < size {
             return true;
         }
         at += size;

@@ -7,11 +7,10 @@ ghost use Rattle.volume.specs.Header.{bytes_refusals, fields_refusals, header_le
 ghost use Rattle.volume.specs.BlockMap.{entry_length};
 
 use crate::attributes::{attributes_fault, base_fault, edition_fault};
-use crate::block_map::{EMPTY_HEADER, ENTRY_LENGTH, count_blocks, has_zero, map_fault};
+use crate::block_map::{EMPTY_HEADER, ENTRY_LENGTH, has_zero, map_fault};
 use crate::extended_header::ext_fault;
 use crate::state::State;
 use common::Refusal;
-use std::num::wrapping_add_u16;
 
 // "_FVH", as the little-endian number of its bytes.
 pub const SIGNATURE: u32 = 0x4856465F;
@@ -42,16 +41,30 @@ const LONGEST_HEADER: usize = 320;
 
 // Opens a volume of either edition: answers the state that its header and the base address give, no block of it protected,
 // or the first of 101 to 110 and 112 that applies. Only the header is read, and in edition 2 the extended header.
+#[tactic(auto, using(crate::proofs::header::Fields::readable, std::proofs::lemmas::Grind::common_steps))]
 pub fn open_volume(volume: &[u8], base: u64) -> Result<State, Refusal>
     ensures { opening_of result ≡ open_volume volume.now base }
 {
     test_bytes(volume)?;
-    let state = state_at(volume, base);
+    let header = usize::from(numbers::u16_at(volume, HEADER_LENGTH));
+    let mut state = State {
+        guid: guid_at(volume),
+        length: numbers::u64_at(volume, LENGTH),
+        attributes: numbers::u32_at(volume, ATTRIBUTES),
+        edition: u32::from(numbers::byte_at(volume, REVISION)),
+        base,
+        protected: 0,
+        entries: (header - EMPTY_HEADER) / ENTRY_LENGTH,
+        map: [0; 64],
+    };
+    read_map(volume, state.entries, &mut state.map);
+    state.protected = state.block_count();
     test_fields(volume, &state)?;
     Ok(state)
 }
 
 // The table's first five rows, 101 to 105, which need no state.
+#[tactic(auto, unfolding(crate::specs::Header::open_refusals, common::specs::Refusals::first_refusal), using(std::proofs::lemmas::Bool::Decides::nat_tests))]
 fn test_bytes(s: &[u8]) -> Result<(), Refusal>
     ensures { refusal_of result ≡ first_refusal (bytes_refusals s.now) }
 {
@@ -61,10 +74,10 @@ fn test_bytes(s: &[u8]) -> Result<(), Refusal>
     if numbers::u32_at(s, SIGNATURE_PLACE) != SIGNATURE {
         return Err(Refusal::WrongSignature);
     }
-    if edition_fault(numbers::byte_at(s, REVISION) as u32) {
+    if edition_fault(u32::from(numbers::byte_at(s, REVISION))) {
         return Err(Refusal::UnknownRevision);
     }
-    let header = numbers::u16_at(s, HEADER_LENGTH) as usize;
+    let header = usize::from(numbers::u16_at(s, HEADER_LENGTH));
     if header_length_fault(header, s.len()) {
         return Err(Refusal::WrongHeaderLength);
     }
@@ -74,33 +87,14 @@ fn test_bytes(s: &[u8]) -> Result<(), Refusal>
     Ok(())
 }
 
-// The state that a header of a good length gives.
-fn state_at(s: &[u8], base: u64) -> State
-    requires { first_refusal (bytes_refusals s.now) ≡ none }
-    ensures { result ≡ state_at s.now base }
-{
-    let entries = (numbers::u16_at(s, HEADER_LENGTH) as usize - EMPTY_HEADER) / ENTRY_LENGTH;
-    let mut map = [0u32; 64];
-    read_map(s, entries, &mut map);
-    State {
-        guid: guid_at(s),
-        length: numbers::u64_at(s, LENGTH),
-        attributes: numbers::u32_at(s, ATTRIBUTES),
-        edition: numbers::byte_at(s, REVISION) as u32,
-        base,
-        protected: count_blocks(&map[..2 * entries]),
-        entries,
-        map,
-    }
-}
-
 // The table's other rows, 106 to 110 and 112, of what the state would be.
+#[tactic(auto, unfolding(crate::specs::Header::open_refusals, crate::specs::Header::map_fault, crate::specs::State::map_of, common::specs::Refusals::first_refusal), using(std::proofs::lemmas::Bool::Decides::nat_tests, crate::proofs::block_map::Words::size_tested))]
 fn test_fields(s: &[u8], state: &State) -> Result<(), Refusal>
     requires { (2 * state.now.entries ≤ 64) × (entry_length ≤ header_length_at s.now) }
     ensures { refusal_of result ≡ first_refusal (fields_refusals s.now state.now) }
 {
     let words = &state.map[..2 * state.entries];
-    let closing = numbers::u16_at(s, HEADER_LENGTH) as usize - ENTRY_LENGTH;
+    let closing = usize::from(numbers::u16_at(s, HEADER_LENGTH)) - ENTRY_LENGTH;
     if has_zero(words) || numbers::u64_at(s, closing) != 0 {
         return Err(Refusal::WrongBlockMap);
     }
@@ -128,47 +122,40 @@ fn test_fields(s: &[u8], state: &State) -> Result<(), Refusal>
 }
 
 // Whether a header length breaks rule 104.
+#[tactic(auto, unfolding(crate::specs::Header::header_length_fault, common::specs::Refusals::any), using(std::proofs::lemmas::Bool::Decides::nat_tests))]
 fn header_length_fault(header: usize, lent: usize) -> bool
     ensures { result ≡ header_length_fault header lent }
 {
-    if header % ENTRY_LENGTH != 0 {
-        return true;
-    }
-    if header < SHORTEST_HEADER {
-        return true;
-    }
-    if LONGEST_HEADER < header {
-        return true;
-    }
-    lent < header
+    header % ENTRY_LENGTH != 0
+        || header < SHORTEST_HEADER
+        || LONGEST_HEADER < header
+        || lent < header
 }
 
-// The sum of the 16-bit words of a byte string, modulo 65,536, as the boot block's listing keeps it: a turn of the loop is a line of the
-// listing, and loads a word and adds it. An odd byte at the end is the low byte of a last word; a header has none.
+// The sum of the 16-bit words of a byte string, modulo 65,536, as the boot block's listing keeps it, in one 16-bit accumulator that wraps at
+// each addition: a turn of the loop is a line of the listing, and loads a word and adds it. An odd byte at the end is the low byte of a last
+// word; a header has none.
 pub fn word_sum(s: &[u8]) -> u16
     ensures { result ≡ word_sum s.now % word_modulus }
 {
     let mut sum: u16 = 0;
-    let mut i = 0;
-    while 1 < s.len() - i {
-        let low = s[i];
-        let high = s[i + 1];
+    for i in 0..s.len() / 2 {
+        let low = s[2 * i];
+        let high = s[2 * i + 1];
         sum = add_word(sum, numbers::u16_of(low, high));
-        i += 2;
     }
-    if i < s.len() {
-        let low = s[i];
+    if s.len() % 2 != 0 {
+        let low = s[s.len() - 1];
         return add_word(sum, numbers::u16_of(low, 0));
     }
     sum
 }
 
-// One line of the listing: a word added to the one 16-bit accumulator, which wraps. Where it held the true sum so far modulo 65,536, it then
-// holds the next one.
+// One line of the listing: a word added to the accumulator. Where it held the true sum so far modulo 65,536, it then holds the next one.
 fn add_word(sum: u16, word: u16) -> u16
     ensures { (so_far : ℕ) → sum ≡ so_far % word_modulus → result ≡ (so_far + word) % word_modulus }
 {
-    wrapping_add_u16(sum, word)
+    sum.wrapping_add(word)
 }
 
 // The file system GUID, bytes 16 to 31.
@@ -177,11 +164,7 @@ fn guid_at(s: &[u8]) -> [u8; 16]
     ensures { result ≡ take 16 (drop 16 s.now) }
 {
     let mut guid = [0u8; 16];
-    let mut i = 0;
-    while i < 16 {
-        guid[i] = s[FILE_SYSTEM_GUID + i];
-        i += 1;
-    }
+    guid.copy_from_slice(&s[FILE_SYSTEM_GUID..LENGTH]);
     guid
 }
 
@@ -190,10 +173,8 @@ fn read_map(s: &[u8], n: usize, map: &mut [u32])
     requires { (map_start + entry_length * n ≤ length s.now) × (2 * n ≤ length map.old) }
     ensures { map.new ≡ words_at (2 * n) s.now map_start ++ drop (2 * n) map.old }
 {
-    let mut i = 0;
-    while i < 2 * n {
+    for i in 0..2 * n {
         let at = BLOCK_MAP + 4 * i;
         map[i] = numbers::u32_of(s[at], s[at + 1], s[at + 2], s[at + 3]);
-        i += 1;
     }
 }

@@ -15,5 +15,5 @@ pub mod state;
 
 pub use crate::extended_entry::{ExtEntry, ext_entry};
 pub use crate::header::{open_volume, word_sum};
-pub use crate::header_writer::{write_header, write_pi_header};
+pub use crate::header_writer::{Edition, write_header};
 pub use crate::state::State;

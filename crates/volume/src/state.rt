@@ -40,17 +40,15 @@ impl State {
 
     // Whether the state breaks rule 111: an edition that is neither 1 nor 2, or 106, 107, 108 or 110, or a nonzero word beyond its entries, or a first
     // protected block past the number of blocks.
+    #[tactic(auto, unfolding(crate::specs::State::unlawful, common::specs::Refusals::any), using(std::proofs::lemmas::Bool::Decides::nat_tests, crate::proofs::state::Lawful::words_long, crate::proofs::state::Lawful::words_tested, crate::proofs::block_map::Words::too_many_entries, crate::proofs::state::Lawful::rest_whole))]
     pub fn is_unlawful(&self) -> bool
         ensures { result ≡ unlawful self.now }
     {
-        if edition_fault(self.edition)
+        edition_fault(self.edition)
             || MAX_ENTRIES < self.entries
             || map_fault(self.map_words(), self.length, self.protected)
             || attributes_fault(self.edition, self.attributes)
             || base_fault(self.attributes, self.base)
-        {
-            return true;
-        }
-        !all_zero(&self.map[2 * self.entries..])
+            || !all_zero(&self.map[2 * self.entries..])
     }
 }

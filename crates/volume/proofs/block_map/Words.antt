@@ -1,5 +1,6 @@
 -- Laws of a block map's words: one entry at a time, for the loops over them, and what breaks rule 107.
-use Rattle.std.proofs.Common.{◌≡◌, ℕ, zero, suc, ◌+◌, ◌*◌, ◌^◌, ◌<◌, ◌≤◌, min, Bool, true, false, not, ◌&&◌, ◌||◌, eqb, ltb, List, [], ◌∷◌, length, get_or, take, drop, refl, suc-mul, mul-le-mul, pos_of_ne-zero, mul-zero, zero-mul, add-one, arith, drop_of_length-le, length-drop, drop-cons, ltb-false, le-ltb, lt-ltb, eq-eqb, ne_eqb, eqb-true, sym, ◌∙◌, take_all, ltb-true, ◌/◌}
+use Rattle.std.specs.Prelude.{fold}
+use Rattle.std.proofs.Common.{◌≡◌, ℕ, zero, suc, ◌+◌, ◌*◌, ◌^◌, ◌<◌, ◌≤◌, min, Bool, true, false, not, ◌&&◌, ◌||◌, eqb, ltb, List, [], ◌∷◌, length, get_or, take, drop, refl, suc-mul, mul-le-mul, pos_of_ne-zero, mul-zero, zero-mul, arith, drop_of_length-le, length-drop, ltb-false, le-ltb, lt-ltb, eq-eqb, ne_eqb, eqb-true, sym, ◌∙◌, take_all, ltb-true, ◌/◌, add-one, drop-cons}
 use mathlib.Core.Bool.{or-true, or-false, and-true, and_assoc}
 use borrow.Author.Tests.{eqb-false, not-false}
 use lib.Bits.{bit_or, or_zero_l, or_add_and, and_le_r}
@@ -131,25 +132,16 @@ gathered_zero zero b = rw (or_zero_l b)
 gathered_zero (suc a) b =
     rw (ne_eqb (suc a) 0 (λ z. omega arith)) (ne_eqb (bit_or (suc a) b) 0 (λ e. omega (arith, or_add_and (suc a) b, and_le_r (suc a) b)))
 
-pub gathered_next : (w : List ℕ) (i g : ℕ) → i < length w
-    → (eqb (bit_or g (get_or w i 0)) 0 && all_zero (drop (i + 1) w)) ≡ (eqb g 0 && all_zero (drop i w))
+-- the words of a list gathered by OR, and the marks of its zeros
+gathered_from : (g : ℕ) (w : List ℕ) → eqb (fold bit_or g w) 0 ≡ (eqb g 0 && all_zero w)
 unfolding all_zero
-gathered_next w i g h = rw (add-one, drop-cons w i 0 h, gathered_zero g (get_or w i 0), and_assoc)
+gathered_from g [] = sym (and-true (eqb g 0))
+gathered_from g (x ∷ w) = gathered_from (bit_or g x) w ∙ rw (gathered_zero g x, and_assoc)
 
-pub gathered_end : (w : List ℕ) (i g : ℕ) → length w ≤ i → (eqb g 0 && all_zero (drop i w)) ≡ eqb g 0
-unfolding all_zero
-gathered_end w i g h = rw (drop_of_length-le w {i = i} h, and-true)
+pub all_gathered : (w : List ℕ) → eqb (fold bit_or 0 w) 0 ≡ all_zero w
+all_gathered w = gathered_from 0 w
 
--- marks gathered by OR: one is found exactly where some word passed is zero
-pub found_next : (w : List ℕ) (i g mark : ℕ) → i < length w → eqb mark 0 ≡ not (eqb (get_or w i 0) 0)
-    → (not (eqb (bit_or g mark) 0) || has_zero (drop (i + 1) w)) ≡ (not (eqb g 0) || has_zero (drop i w))
+-- a word of zero, and the words behind it
+pub zero_next : (w : List ℕ) (i : ℕ) → i < length w → has_zero (drop i w) ≡ (eqb (get_or w i 0) 0 || has_zero (drop (i + 1) w))
 unfolding has_zero
-found_next w i g mark h e = rw (add-one, drop-cons w i 0 h, gathered_zero g mark, e) (go (eqb g 0) (eqb (get_or w i 0) 0))
-  where
-    go : (a b : Bool) → (not (a && not b) || has_zero (drop (suc i) w)) ≡ (not a || (b || has_zero (drop (suc i) w)))
-    go true true = refl
-    go true false = refl
-    go false b = refl
-
-pub found_end : (w : List ℕ) (i g : ℕ) → length w ≤ i → (not (eqb g 0) || has_zero (drop i w)) ≡ not (eqb g 0)
-found_end w i g h = rw (← has_zero_end w i h, or-false)
+zero_next w i h = rw (add-one, drop-cons w i 0 h)

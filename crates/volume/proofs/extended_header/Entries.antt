@@ -78,15 +78,11 @@ entries_next s at end h e = one_step s at end h ∙ rw e
 -- ---- as the walk for faults meets them
 
 module _ (s : List ℕ) (at end : ℕ) (inside : at < end) where
-  pub cut_faulty : end - at < 4 → true ≡ entries_faulty (entries_from s at end)
-  unfolding entries_faulty any
-  cut_faulty h = rw (entries_fault s at end (λ e. omega arith) (rw (lt-ltb end (at + 4) (omega arith))))
-
-  pub small_faulty : le 2 s at < 4 → true ≡ entries_faulty (entries_from s at end)
+  pub small_faulty : le 2 s at < 4 → entries_faulty (entries_from s at end) ≡ true
   unfolding entries_faulty any
   small_faulty h = rw (entries_fault s at end (λ e. omega arith) (rw (lt-ltb (le 2 s at) 4 h, or-true)))
 
-  pub past_faulty : end - at < le 2 s at → true ≡ entries_faulty (entries_from s at end)
+  pub past_faulty : end - at < le 2 s at → entries_faulty (entries_from s at end) ≡ true
   unfolding entries_faulty any
   past_faulty h = rw (entries_fault s at end (λ e. omega arith) (rw (lt-ltb end (at + le 2 s at) (omega arith), or-true, or-true)))
 
@@ -95,11 +91,11 @@ module _ (s : List ℕ) (at end : ℕ) (inside : at < end) where
   before_faulty none = refl
   before_faulty (some rest) = refl
 
-  pub next_faulty : 4 ≤ end - at → 4 ≤ le 2 s at → le 2 s at ≤ end - at → entries_faulty (entries_from s at end) ≡ entries_faulty (entries_from s (at + le 2 s at) end)
-  next_faulty p q r =
+  pub next_faulty : 4 ≤ le 2 s at → le 2 s at ≤ end - at → entries_faulty (entries_from s at end) ≡ entries_faulty (entries_from s (at + le 2 s at) end)
+  next_faulty q r =
       ap entries_faulty (entries_next s at end (λ e. omega arith) (whole s at end (omega arith) q (omega arith))) ∙ before_faulty (entries_from s (at + le 2 s at) end)
 
-pub end_faulty : (s : List ℕ) (at end : ℕ) → at ≡ end → false ≡ entries_faulty (entries_from s at end)
+pub end_faulty : (s : List ℕ) (at end : ℕ) → at ≡ end → entries_faulty (entries_from s at end) ≡ false
 unfolding entries_faulty
 end_faulty s at end e = rw (e, entries_end s end)
 

@@ -1,6 +1,6 @@
 -- What a lawful state is known to have: its entries, blocks and length keep the limits, its blocks make up its length, and its first protected
 -- block is not past their number.
-use Rattle.std.proofs.Common.{◌≡◌, ℕ, ◌*◌, ◌/◌, ◌≤◌, Bool, true, false, not, ◌||◌, ltb, List, length, length-take-le, take, drop, refl, arith, ltb-false}
+use Rattle.std.proofs.Common.{◌≡◌, ℕ, ◌*◌, ◌/◌, ◌≤◌, Bool, true, false, not, ◌||◌, ltb, List, length, length-take-le, take, drop, refl, arith, ltb-false, ap, take_all, length-drop, ◌-◌}
 use mathlib.Core.Bool.{or-true, or-false}
 use borrow.Author.Tests.{not-false}
 use Rattle.common.specs.Refusals.{any}
@@ -72,6 +72,10 @@ module _ (st : State) (whole : length st.map ≡ 64) (room : st.entries ≤ max_
   pub words_tested : {t : Bool} → t ≡ (has_zero w || (size_fault (length w / 2) w st.length || ltb (blocks w) st.protected))
       → t ≡ (has_zero (map_of st) || (size_fault st.entries (map_of st) st.length || ltb (blocks (map_of st)) st.protected))
   words_tested h = let n : length w / 2 ≡ st.entries = omega (arith, words_long) in rw (n, e) at h
+
+-- and the words behind them are all that is left
+pub rest_whole : (st : State) → length st.map ≡ 64 → all_zero (take (64 - 2 * st.entries) (drop (2 * st.entries) st.map)) ≡ all_zero (drop (2 * st.entries) st.map)
+rest_whole st whole = ap all_zero (take_all (64 - 2 * st.entries) (drop (2 * st.entries) st.map) (rw length-drop (omega arith)))
 
 -- the same of a map as it is lent: the first words of an array of 64
 module _ (st : State) (k : Lawful st) where

@@ -1,6 +1,6 @@
 -- `volume::extended_entry::ext_entry` meets its contract: opening's refusal, no extended header, or the walk to the entry.
 use Rattle.std.specs.Prelude.{Err}
-use Rattle.std.proofs.Common.{◌≡◌, rules}
+use Rattle.std.proofs.Common.{◌≡◌, ◌∙◌, rules}
 use Rattle.volume.specs.ExtendedEntry.{entry_answer}
 use Rattle.volume.specs.Header.{opening_of}
 use Rattle.volume.proofs.extended_entry.Numbered.{entry_refused, no_edition, no_entries, good_entries, entry_asked}
@@ -18,14 +18,14 @@ returns-then-state-ne2 c = no_edition _ _ _ c.in_ok-state.ensures c.if-state-ne2
 
 pub returns-then-offset-eq0 : goal.returns-then-offset-eq0
 unfolding entry_answer opening_of
-returns-then-offset-eq0 c = no_entries _ _ _ c.in_ok-state.ensures c.if-state-ne2.false _ c.u16_at-offset.ensures c.if-offset-eq0.true
+returns-then-offset-eq0 c = no_entries _ _ _ c.in_ok-state.ensures c.if-state-ne2.false _ (c.from-offset.ensures ∙ c.u16_at.ensures) c.if-offset-eq0.true
 
 pub entry_from-requires : goal.entry_from-requires
 unfolding opening_of
 entry_from-requires c =
-    good_entries _ 0 _ c.in_ok-state.ensures c.if-state-ne2.false _ c.u16_at-offset.ensures c.if-offset-eq0.false _ c.u32_at.ensures
+    good_entries _ 0 _ c.in_ok-state.ensures c.if-state-ne2.false _ (c.from-offset.ensures ∙ c.u16_at.ensures) c.if-offset-eq0.false _ c.u32_at.ensures
 
 pub returns : goal.returns
 unfolding opening_of
 returns c =
-    entry_asked _ _ _ c.in_ok-state.ensures c.if-state-ne2.false _ c.u16_at-offset.ensures c.if-offset-eq0.false _ c.u32_at.ensures _ c.entry_from.ensures
+    entry_asked _ _ _ c.in_ok-state.ensures c.if-state-ne2.false _ (c.from-offset.ensures ∙ c.u16_at.ensures) c.if-offset-eq0.false _ c.u32_at.ensures _ c.entry_from.ensures
