@@ -16,7 +16,7 @@ use crate::blocks::{equal_blocks, find_place};
 use crate::judged::{write_judged, write_refusal};
 use crate::lent::{test_lawful, test_lent};
 use common::Refusal;
-use settings::{changes_fixed, changes_locked, lacks_capability};
+use settings::test_change;
 use volume::State;
 use volume::attributes::{MEMORY_MAPPED, READ_STATUS, is_set};
 
@@ -49,17 +49,7 @@ pub fn set_attributes(state: &mut State, new: u32) -> Result<u32, Refusal>
     ensures { (v : List ℕ) → result_of (settings_answer result) state.new v [] ≡ step state.old v (set_attributes new) }
 {
     test_lawful(state)?;
-    let edition = state.edition;
-    let old = state.attributes;
-    if changes_fixed(edition, old, new) {
-        return Err(Refusal::InvalidParameter);
-    }
-    if changes_locked(edition, old, new) {
-        return Err(Refusal::AccessDenied);
-    }
-    if lacks_capability(edition, old, new) {
-        return Err(Refusal::InvalidParameter);
-    }
+    test_change(state.edition, state.attributes, new)?;
     state.attributes = new;
     Ok(new)
 }
