@@ -28,6 +28,7 @@ pub(crate) fn find_place(words: &[u32], lent: usize, block: u64) -> Result<Block
 {
     let mut start = 0;
     let mut rest = block as usize;
+    // Document 01 names this form: the scan leaves from inside by break, with the entry and the block's start.
     'scan: {
         for entry in 0..words.len() / 2 {
             let count = words[2 * entry] as usize;

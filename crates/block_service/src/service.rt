@@ -4,7 +4,7 @@
 // contents of the volume and of the reader's buffer afterwards are those of `step` in specs/Service. A call
 // costs a test of the state (passes over at most 32 map entries), a scan of the map for the block that it names, and the bytes
 // that it moves. A state is borrowed, and nothing of it is copied.
-#![tactic(auto, unfolding(crate::specs::Service::step, crate::specs::Service::decide, crate::specs::Service::refusals, crate::specs::Service::effect, crate::specs::Service::perform, crate::specs::Service::buffer_of, crate::specs::Service::settings_answer, crate::specs::Service::address_answer, crate::specs::Service::block_size_answer, crate::specs::Service::moved_answer, crate::specs::Service::move_answer, crate::specs::Service::lent_refusals, crate::specs::Access::count_moved, crate::specs::Service::protection_answer, crate::specs::Service::with_attributes, crate::specs::Service::with_protected, common::specs::Refusals::first_refusal, settings::specs::Settings::setting_refusals, volume::specs::State::state_with))]
+#![tactic(auto, unfolding(crate::specs::Service::step, crate::specs::Service::decide, crate::specs::Service::refusals, crate::specs::Service::effect, crate::specs::Service::perform, crate::specs::Service::buffer_of, crate::specs::Service::settings_answer, crate::specs::Service::address_answer, crate::specs::Service::block_size_answer, crate::specs::Service::moved_answer, crate::specs::Service::move_answer, crate::specs::Service::lent_refusals, crate::specs::Access::count_moved, crate::specs::Service::protection_answer, crate::specs::Service::with_attributes, crate::specs::Service::with_protected, common::specs::Refusals::first_refusal, volume::specs::State::state_with))]
 
 ghost use Rattle.std.specs.Prelude.{List, [], ◌≡◌, ℕ, Ok};
 ghost use Rattle.block_service.specs.Service.{step, result_of, settings_answer, address_answer, block_size_answer, moved_answer, protection_answer};
@@ -16,7 +16,7 @@ use crate::blocks::{equal_blocks, find_place};
 use crate::judged::{write_judged, write_refusal};
 use crate::lent::{test_lawful, test_lent};
 use common::Refusal;
-use settings::{changes_fixed, changes_locked, lacks_capability};
+use settings::test_change;
 use volume::State;
 use volume::attributes::{MEMORY_MAPPED, READ_STATUS, is_set};
 
@@ -49,17 +49,7 @@ pub fn set_attributes(state: &mut State, new: u32) -> Result<u32, Refusal>
     ensures { (v : List ℕ) → result_of (settings_answer result) state.new v [] ≡ step state.old v (set_attributes new) }
 {
     test_lawful(state)?;
-    let edition = state.edition;
-    let old = state.attributes;
-    if changes_fixed(edition, old, new) {
-        return Err(Refusal::InvalidParameter);
-    }
-    if changes_locked(edition, old, new) {
-        return Err(Refusal::AccessDenied);
-    }
-    if lacks_capability(edition, old, new) {
-        return Err(Refusal::InvalidParameter);
-    }
+    test_change(state.edition, state.attributes, new)?;
     state.attributes = new;
     Ok(new)
 }
