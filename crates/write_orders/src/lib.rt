@@ -75,6 +75,7 @@ pub struct ByteOrders<'a>(pub &'a [u8]);
 impl<'a> OrderList for ByteOrders<'a> {
     ghost orders = { λ list. orders_in list.0.now };
 
+    #[tactic(auto, using(crate::proofs::OrderBytes::orders_length))]
     fn len(self) -> usize {
         self.0.len() / ORDER_BYTES
     }
@@ -87,6 +88,7 @@ impl<'a> OrderList for ByteOrders<'a> {
 }
 
 // The order that 32 bytes hold.
+#[tactic(auto, unfolding(crate::specs::Orders::order_at))]
 fn order_of(bytes: &[u8; ORDER_BYTES]) -> Order
     ensures { result ≡ order_at bytes.now 0 }
 {
