@@ -26,7 +26,7 @@ use Rattle.block_service.specs.Order.{up_from, member, firsts, part, named_block
 use Rattle.block_service.specs.Service.{Call, get_attributes, get_physical_address, set_attributes, get_block_size, read, write, erase_blocks, protect_blocks, accept_erase, carry_erase, carry_answer}
 use Rattle.block_service.specs.Service.{lent_refusals, refusals, move_answer, with_attributes, with_protected, result_of, buffer_of, step}
 use Rattle.settings.specs.Settings.{status_bits, changes_fixed, changes_locked, lacks_capability}
-use Rattle.block_service.specs.declared.blocks.Place.TheVariants.{At}
+use Rattle.block_service.specs.Blocks.{At}
 use Rattle.block_service.proofs.access.Moves as Moves
 use Rattle.block_service.proofs.blocks.Places as Places
 use Rattle.block_service.proofs.carry.Orders as Orders

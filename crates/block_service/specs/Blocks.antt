@@ -5,11 +5,13 @@ use Rattle.std.specs.Prelude.{ℕ, ◌+◌, ◌-◌, ◌*◌, ◌/◌, min, Bool
 use Rattle.common.specs.Refusals.{Row, row}
 use Rattle.volume.specs.BlockMap.{blocks}
 use Rattle.block_service.specs.declared.blocks.BlockPlace.{BlockPlace}
-use Rattle.block_service.specs.declared.blocks.Place.{Place}
-use Rattle.block_service.specs.declared.blocks.Place.TheVariants.{At, Missing}
 
--- the place of the block b blocks on, in entries of which the first is number e and starts at byte s: the entry, the block's first
--- byte and length, and the number of blocks from it to the end of the entry
+-- where a block lies: its map entry, its first byte and its length, and the number of blocks from it to the end of its entry, itself included; or no entry holds it
+pub data Place : Type 0 where
+  At : ℕ → ℕ → ℕ → ℕ → Place
+  Missing : Place
+
+-- the place of the block b blocks on, in entries of which the first is number e and starts at byte s
 unfoldable pub place_from : List ℕ → ℕ → ℕ → ℕ → Place
 place_from [] e s b = Missing
 place_from (count ∷ []) e s b = Missing

@@ -40,7 +40,6 @@ pub record FrontDone (map : List ℕ) (value from to : ℕ) (w v : List ℕ) (at
   pub good : good_list (blocks map) (drop (2 * pairs) w) ≡ true
   pub fits : (j : ℕ) → j < pairs → get_or w (2 * j) 0 + get_or w (2 * j + 1) 0 ≤ blocks map
   pub rest : (n : ℕ) (x : List ℕ) → Rest map value from to at (names_first pairs w) w (2 * pairs) u n x → Rest map value from to 0 (names_first 0 w) w 0 v n x
-  pub few : 2 * pairs < 18446744073709551616
 
 -- what carrying a job of a good list on answers and leaves; the list reaches a protected block or not
 pub record Progressed (map list : List ℕ) (value : ℕ) (reached : Bool) (job stores : ℕ) (v : List ℕ) (r : Result Progress Refusal) (u : List ℕ) : Type 0 where

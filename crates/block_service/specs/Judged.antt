@@ -1,7 +1,7 @@
 -- A write by the parts of a state that was judged before (for document 02, e, whose list of writes is judged once). Where 111, 5 and 15 for disabled writes are not
 -- due, it is `step`'s write (proofs/Theorems, `judged_write_lem`). By other parts what it answers is our choice, and neither 111 nor the write status is asked: 5 where the map's
 -- entries up to the block's have more bytes than are lent, so that every block that is written lies in the lent bytes.
-use Rattle.std.specs.Prelude.{ℕ, ◌+◌, ◌-◌, ◌*◌, Bool, true, false, cond, List, [], ◌∷◌, leb, ltb, length}
+use Rattle.std.specs.Prelude.{ℕ, ◌+◌, List, [], ◌∷◌, leb, length}
 use Rattle.common.specs.Answers.{Answer, refused}
 use Rattle.common.specs.Lists.{edit}
 use Rattle.common.specs.Refusals.{Row, row, first_refusal, unless_refused}

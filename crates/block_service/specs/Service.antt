@@ -2,7 +2,6 @@
 -- reader's buffer. A call is decided from the state, the length of the lent volume and its arguments alone; only the effect that was
 -- decided on touches bytes.
 use Rattle.std.specs.Prelude.{Result as Outcome, Ok, Err, ℕ, ◌+◌, Bool, not, cond, List, [], ◌∷◌, ◌++◌, eqb, leb, ltb, length, take, drop}
-use Rattle.std.proofs.Math.Option.{Option, none, some}
 use Rattle.common.specs.Answers.{Answer, refused, success, short}
 use Rattle.common.specs.Lists.{edit}
 use Rattle.common.specs.Refusal.{number}

@@ -1,25 +1,11 @@
 // Where a volume's blocks lie.
-ghost use Rattle.std.specs.Prelude.{◌≡◌, ◌+◌, ◌*◌, ◌≤◌, ◌<◌, ◌∷◌, length, drop, get_or, IfOk};
+ghost use Rattle.std.specs.Prelude.{◌≡◌, ◌+◌, ◌*◌, ◌≤◌, ◌<◌, ◌∷◌, length, drop, IfOk};
 ghost use Rattle.common.specs.Refusal.{refusal_of};
 ghost use Rattle.common.specs.Refusals.{first_refusal};
-ghost use Rattle.volume.specs.BlockMap.{blocks, bytes, max_length, max_blocks};
+ghost use Rattle.volume.specs.BlockMap.{blocks, max_length, max_blocks};
 ghost use Rattle.block_service.specs.Blocks.{place, place_of, place_refusals, equal_blocks, first_byte};
 
 use common::Refusal;
-use numbers::wide;
-
-// The place of a block: its map entry, the byte of the volume at which it starts, its length, and the
-// number of blocks from it to the end of its entry, itself included.
-#[derive(Clone, Copy)]
-pub enum Place {
-    At {
-        entry: usize,
-        start: usize,
-        len: usize,
-        left: usize,
-    },
-    Missing,
-}
 
 // The place of a block: its map entry, the byte of the volume at which it starts, its length, and the
 // number of blocks from it to the end of its entry, itself included.
@@ -34,7 +20,7 @@ pub struct BlockPlace {
 // The place of a block in a map of a volume of which so many bytes are lent: the first entry that holds it settles it. Refused with 5
 // where the entries up to the block's, or all where none holds it, have more bytes than are lent, and with 2 where none holds it. No
 // sum passes the lent bytes.
-#[tactic(auto, using(crate::proofs::blocks::Runs::turns), unfolding(crate::specs::Blocks::place, common::specs::Refusals::first_refusal))]
+#[tactic(auto, using(crate::proofs::blocks::Runs::search_turns), unfolding(crate::specs::Blocks::place, common::specs::Refusals::first_refusal))]
 pub(crate) fn find_place(words: &[u32], lent: usize, block: u64) -> Result<BlockPlace, Refusal>
     ensures refused { refusal_of result ≡ first_refusal (place_refusals words.now block lent) }
     ensures found { IfOk result (λ found. place_of found ≡ place words.now block) }
@@ -65,48 +51,17 @@ pub(crate) fn find_place(words: &[u32], lent: usize, block: u64) -> Result<Block
     }
 }
 
-// The place of a block in a map's words: the first entry that holds it settles it.
-pub(crate) fn find_block(words: &[u32], block: u64) -> Place
-    requires { bytes words.now ≤ max_length }
-    ensures { result ≡ place words.now block }
-{
-    let entries = words.len() / 2;
-    let mut entry = 0;
-    let mut start: usize = 0;
-    let mut rest = block as usize;
-    loop {
-        if entries <= entry {
-            break Place::Missing;
-        }
-        let count = wide(words[2 * entry]) as usize;
-        let len = wide(words[2 * entry + 1]) as usize;
-        if rest < count {
-            let first_byte = start + rest * len;
-            let left = count - rest;
-            break Place::At {
-                entry,
-                start: first_byte,
-                len,
-                left,
-            };
-        }
-        start += count * len;
-        rest -= count;
-        entry += 1;
-    }
-}
-
-// The number of blocks of this length with which the entries after an entry begin: those of the entries before the first
+// The number of blocks of a place's length with which the entries after its own begin: those of the entries before the first
 // of another length.
-#[tactic(auto, using(crate::proofs::blocks::Runs::equal_turn, crate::proofs::blocks::Runs::equal_stops, crate::proofs::blocks::Runs::equal_done, crate::proofs::blocks::Runs::equal_within))]
-pub(crate) fn equal_blocks(words: &[u32], entry: usize, len: usize) -> usize
-    requires in_bounds { 2 * entry + 1 < length words.now }
+#[tactic(auto, using(crate::proofs::blocks::Runs::equal_turns))]
+pub(crate) fn equal_blocks(words: &[u32], place: &BlockPlace) -> usize
+    requires in_bounds { 2 * place.now.entry + 1 < length words.now }
     requires words_bound { blocks words.now ≤ max_blocks }
-    ensures { result ≡ equal_blocks (drop (2 * (entry + 1)) words.now) len }
+    ensures { result ≡ equal_blocks (drop (2 * (place.now.entry + 1)) words.now) place.now.len }
 {
     let mut count = 0;
-    for i in entry + 1..words.len() / 2 {
-        if words[2 * i + 1] as usize != len {
+    for i in place.entry + 1..words.len() / 2 {
+        if words[2 * i + 1] as usize != place.len {
             break;
         }
         count += words[2 * i] as usize;
@@ -114,19 +69,17 @@ pub(crate) fn equal_blocks(words: &[u32], entry: usize, len: usize) -> usize
     count
 }
 
-// The end of a run of blocks that starts at byte `start` in an entry: `left` blocks of the entry are left,
-// and the run goes on through the entries after it.
-#[tactic(auto, using(crate::proofs::blocks::Runs::ends))]
-pub(crate) fn run_end(words: &[u32], entry: usize, start: usize, left: usize, count: usize) -> usize
-    requires in_bounds { 2 * entry + 1 < length words.now }
-    requires count_bound { count ≤ left + blocks (drop (2 * (entry + 1)) words.now) }
-    requires count_bound_2 { start + first_byte (left ∷ get_or words.now (2 * entry + 1) 0 ∷ drop (2 * (entry + 1)) words.now) count ≤ max_length }
-    ensures { result ≡ start + first_byte (left ∷ get_or words.now (2 * entry + 1) 0 ∷ drop (2 * (entry + 1)) words.now) count }
+// The end of a run of blocks of which the first has a place: the run goes on through the entries after the place's own.
+#[tactic(auto, using(crate::proofs::blocks::Runs::end_turns))]
+pub(crate) fn run_end(words: &[u32], place: &BlockPlace, count: usize) -> usize
+    requires in_bounds { 2 * place.now.entry + 1 < length words.now }
+    requires count_bound { place.now.start + first_byte (place.now.left ∷ place.now.len ∷ drop (2 * (place.now.entry + 1)) words.now) count ≤ max_length }
+    ensures { result ≡ place.now.start + first_byte (place.now.left ∷ place.now.len ∷ drop (2 * (place.now.entry + 1)) words.now) count }
 {
-    let here = count.min(left);
-    let mut end = start + here * words[2 * entry + 1] as usize;
+    let here = count.min(place.left);
+    let mut end = place.start + here * place.len;
     let mut rest = count - here;
-    for next in entry + 1..words.len() / 2 {
+    for next in place.entry + 1..words.len() / 2 {
         if rest == 0 {
             break;
         }

@@ -59,7 +59,8 @@ pub(crate) fn carry_list<L: EraseList>(
         at: 0,
     };
     let pairs = walk.front(list);
-    if list.word(2 * pairs) == END_OF_LIST {
+    let (first, _) = list.pair(pairs);
+    if first == END_OF_LIST {
         return walk.at;
     }
     walk.rest(list, pairs);
@@ -76,20 +77,18 @@ fn run_bytes(words: &[u32], lent: usize, first: usize, count: usize) -> Range<us
     let Ok(place) = find_place(words, lent, first as u64) else {
         return 0..0;
     };
-    place.start..run_end(words, place.entry, place.start, place.left, count)
+    place.start..run_end(words, &place, count)
 }
 
 // Marks the blocks that the list's first `pairs` pairs name.
 fn mark_front<L: EraseList>(marks: &mut Marks, list: L, pairs: usize)
     requires marks_none { (x : ℕ) → marked marks.old.words x ≡ false }
     requires pairs_in_bounds { (2 * pairs ≤ length (L.words list)) × ((j : ℕ) → j < pairs → get_or (L.words list) (2 * j) 0 + get_or (L.words list) (2 * j + 1) 0 ≤ 65536) }
-    requires pairs_bound { 2 * pairs < 18446744073709551616 }
     ensures { (x : ℕ) → marked marks.new.words x ≡ names_first pairs (L.words list) x }
 {
     for j in 0..pairs {
-        let first = list.word(2 * j) as usize;
-        let count = list.word(2 * j + 1) as usize;
-        marks.mark(first, first + count);
+        let (first, count) = list.pair(j);
+        marks.mark(first as usize, (first + count) as usize);
     }
 }
 
@@ -117,20 +116,15 @@ impl<'a> Walk<'a> {
         ensures walked { let w = self.old in
             FrontDone w.words.now w.portion.value w.portion.from w.portion.to (L.words list) w.volume.now self.new.at result self.new.volume.now }
     {
-        let n = list.len() / 2;
+        let n = list.pairs();
         let mut high = 0;
         for j in 0..n {
-            let first = list.word(2 * j);
-            if first == END_OF_LIST {
+            let (first, count) = list.pair(j);
+            if first == END_OF_LIST || first < high {
                 return j;
             }
-            let b = first as usize;
-            if b < high {
-                return j;
-            }
-            let count = list.word(2 * j + 1) as usize;
-            self.run(b, count);
-            high = b + count;
+            self.run(first as usize, count as usize);
+            high = first + count;
         }
         n
     }
@@ -141,7 +135,6 @@ impl<'a> Walk<'a> {
         requires pairs_in_bounds { (2 * pairs ≤ length (L.words list)) × (good_list (blocks self.old.words.now) (drop (2 * pairs) (L.words list)) ≡ true) }
         requires by_index { (j : ℕ) → j < pairs → get_or (L.words list) (2 * j) 0 + get_or (L.words list) (2 * j + 1) 0 ≤ 65536 }
         requires tail_bound { self.old.at + length (bytes_of self.old.words.now (firsts (names_first pairs (L.words list)) (named_blocks (drop (2 * pairs) (L.words list))))) ≤ max_length }
-        requires pairs_bound { 2 * pairs < 18446744073709551616 }
         ensures same_reference { self.new.volume.ghost_name ≡ self.old.volume.ghost_name }
         ensures walked { let w = self.old in
             Rest w.words.now w.portion.value w.portion.from w.portion.to w.at (names_first pairs (L.words list)) (L.words list) (2 * pairs) w.volume.now self.new.at self.new.volume.now }
@@ -159,12 +152,11 @@ impl<'a> Walk<'a> {
         ensures walked { let w = self.old in
             Rest w.words.now w.portion.value w.portion.from w.portion.to w.at (marked marks.old.words) (L.words list) (2 * pairs) w.volume.now self.new.at self.new.volume.now }
     {
-        for j in pairs..list.len() / 2 {
-            let first = list.word(2 * j);
+        for j in pairs..list.pairs() {
+            let (first, count) = list.pair(j);
             if first == END_OF_LIST {
                 return;
             }
-            let count = list.word(2 * j + 1);
             self.pair(marks, first as usize, count as usize);
         }
     }

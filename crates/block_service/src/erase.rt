@@ -1,5 +1,5 @@
 // Erase lists, and the byte of an erase.
-ghost use Rattle.std.specs.Prelude.{not, ◌&&◌, [], ◌∷◌, List, ℕ, ◌≡◌, ◌+◌, eqb, leb, length, get_or};
+ghost use Rattle.std.specs.Prelude.{not, ◌&&◌, [], ◌∷◌, List, ℕ, ◌≡◌, ◌+◌, ◌*◌, ◌/◌, eqb, leb, length, get_or};
 ghost use Rattle.common.specs.Refusal.{refusal_of};
 ghost use Rattle.common.specs.Refusals.{first_refusal, row};
 ghost use Rattle.block_service.specs.Access.{erased_byte};
@@ -12,17 +12,17 @@ use volume::attributes::{ERASE_POLARITY, is_set};
 // The word that ends an erase list, where a first block would stand.
 pub const END_OF_LIST: u64 = 0xFFFFFFFFFFFFFFFF;
 
-// An erase list: words of 64 bits, which are read where they stand.
+// An erase list: pairs of words of 64 bits, which are read where they stand.
 pub trait EraseList: Copy {
     ghost words: { Self → List ℕ };
 
-    // The number of words.
-    fn len(self) -> usize
-        ensures { result ≡ length (words self) };
+    // The number of whole pairs.
+    fn pairs(self) -> usize
+        ensures { result ≡ length (words self) / 2 };
 
-    // Word i; past the end 0.
-    fn word(self, i: usize) -> u64
-        ensures { result ≡ get_or (words self) i 0 };
+    // Pair j: a first block and a count. A word past the end is 0.
+    fn pair(self, j: usize) -> (u64, u64)
+        ensures { (result.0 ≡ get_or (words self) (2 * j) 0) × (result.1 ≡ get_or (words self) (2 * j + 1) 0) };
 }
 
 // A list that comes as words.
@@ -32,12 +32,19 @@ pub struct Words<'a>(pub &'a [u64]);
 impl<'a> EraseList for Words<'a> {
     ghost words = { λ list. list.0.now };
 
-    fn len(self) -> usize {
-        self.0.len()
+    fn pairs(self) -> usize {
+        self.0.len() / 2
     }
 
-    fn word(self, i: usize) -> u64 {
-        self.0.get(i).copied().unwrap_or(0)
+    fn pair(self, j: usize) -> (u64, u64) {
+        let words = self.0;
+        if j < words.len() / 2 {
+            return (words[2 * j], words[2 * j + 1]);
+        }
+        if j == words.len() / 2 && words.len() % 2 == 1 {
+            return (words[2 * j], 0);
+        }
+        (0, 0)
     }
 }
 
@@ -48,20 +55,20 @@ pub struct ByteWords<'a>(pub &'a [u8]);
 impl<'a> EraseList for ByteWords<'a> {
     ghost words = { λ list. list_words list.0.now };
 
-    fn len(self) -> usize {
-        let bytes = self.0;
-        bytes.len() / 8
+    fn pairs(self) -> usize {
+        self.0.len() / 16
     }
 
-    // A part of 8 bytes is lent to the reader, so that no test of the bound is compiled.
-    fn word(self, i: usize) -> u64 {
+    fn pair(self, j: usize) -> (u64, u64) {
         let bytes = self.0;
-        if i < bytes.len() / 8 {
-            let from = 8 * i;
-            let end = from + 8;
-            return u64_at(&bytes[from..end], 0);
+        if j < bytes.len() / 16 {
+            let pair = &bytes[16 * j..16 * j + 16];
+            return (u64_at(pair, 0), u64_at(pair, 8));
         }
-        0
+        if j == bytes.len() / 16 && 8 <= bytes.len() % 16 {
+            return (u64_at(&bytes[16 * j..16 * j + 8], 0), 0);
+        }
+        (0, 0)
     }
 }
 
@@ -85,14 +92,13 @@ pub(crate) fn list_reaches<L: EraseList>(
 ) -> Result<bool, Refusal>
     ensures { result ≡ judged_list (good_list total (L.words list)) (reaches protected (L.words list)) }
 {
-    let pairs = list.len() / 2;
+    let pairs = list.pairs();
     let mut reached = false;
     for j in 0..pairs {
-        let first = list.word(2 * j);
+        let (first, count) = list.pair(j);
         if first == END_OF_LIST {
             return Ok(reached);
         }
-        let count = list.word(2 * j + 1);
         if !pair_fits(total, first, count) {
             return Err(Refusal::InvalidParameter);
         }
@@ -101,7 +107,8 @@ pub(crate) fn list_reaches<L: EraseList>(
         }
     }
     // A last word that has no count beside it may be the terminator.
-    if list.word(2 * pairs) == END_OF_LIST {
+    let (last, _) = list.pair(pairs);
+    if last == END_OF_LIST {
         Ok(reached)
     } else {
         Err(Refusal::InvalidParameter)

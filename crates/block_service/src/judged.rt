@@ -26,6 +26,7 @@ pub fn write_refusal(state: &State, volume_len: u64) -> Result<(), Refusal>
 // asked: where `write_refusal` allows a write to the volume it is that write, refused with 2 (no such block) or 15 (the block is
 // protected). By other parts 5 comes first, where the map's entries up to the block's, or all where none holds it, have more bytes than
 // are lent. A refusal changes no byte.
+#[tactic(auto, unfolding(crate::specs::Judged::judged_write, crate::specs::Judged::judged_refusals, crate::specs::Access::count_moved, crate::specs::Blocks::start_of, crate::specs::Blocks::length_of, crate::specs::Service::moved_answer, common::specs::Refusals::first_refusal))]
 pub fn write_judged(
     attributes: u32,
     protected: u64,

@@ -4,30 +4,7 @@
 // contents of the volume and of the reader's buffer afterwards are those of `step` in specs/Service. A call
 // costs a test of the state (passes over at most 32 map entries), a scan of the map for the block that it names, and the bytes
 // that it moves. A state is borrowed, and nothing of it is copied.
-#![tactic(
-    auto,
-    unfolding(
-        crate::specs::Service::step,
-        crate::specs::Service::decide,
-        crate::specs::Service::refusals,
-        crate::specs::Service::effect,
-        crate::specs::Service::perform,
-        crate::specs::Service::buffer_of,
-        crate::specs::Service::settings_answer,
-        crate::specs::Service::address_answer,
-        crate::specs::Service::block_size_answer,
-        crate::specs::Service::moved_answer,
-        crate::specs::Service::move_answer,
-        crate::specs::Service::lent_refusals,
-        crate::specs::Access::count_moved,
-        crate::specs::Service::protection_answer,
-        crate::specs::Service::with_attributes,
-        crate::specs::Service::with_protected,
-        common::specs::Refusals::first_refusal,
-        settings::specs::Settings::setting_refusals,
-        volume::specs::State::state_with
-    )
-)]
+#![tactic(auto, unfolding(crate::specs::Service::step, crate::specs::Service::decide, crate::specs::Service::refusals, crate::specs::Service::effect, crate::specs::Service::perform, crate::specs::Service::buffer_of, crate::specs::Service::settings_answer, crate::specs::Service::address_answer, crate::specs::Service::block_size_answer, crate::specs::Service::moved_answer, crate::specs::Service::move_answer, crate::specs::Service::lent_refusals, crate::specs::Access::count_moved, crate::specs::Service::protection_answer, crate::specs::Service::with_attributes, crate::specs::Service::with_protected, common::specs::Refusals::first_refusal, settings::specs::Settings::setting_refusals, volume::specs::State::state_with))]
 
 ghost use Rattle.std.specs.Prelude.{List, [], ◌≡◌, ℕ, Ok};
 ghost use Rattle.block_service.specs.Service.{step, result_of, settings_answer, address_answer, block_size_answer, moved_answer, protection_answer};
@@ -106,7 +83,7 @@ pub fn get_block_size(state: &State, block: u64) -> Result<BlockSize, Refusal>
     test_lawful(state)?;
     let words = state.map_words();
     let place = find_place(words, state.length as usize, block)?;
-    let count = place.left + equal_blocks(words, place.entry, place.len);
+    let count = place.left + equal_blocks(words, &place);
     Ok(BlockSize {
         length: place.len,
         count,

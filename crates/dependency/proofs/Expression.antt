@@ -14,7 +14,7 @@ use Rattle.common.specs.Refusals.{first_refusal, unless_refused}
 use Rattle.common.proofs.Refusals.{row-passed}
 use Rattle.dependency.specs.Opcodes.{end_code, row_of, code_at, after, operand_of, read_refusals, read_opcode}
 use Rattle.dependency.specs.Expression.{Reading, fault, ended, next, reading_from, reading, Ends}
-use Rattle.dependency.proofs.opcodes.Single.{opened, read_none, read_passed, read_refused, reads_within}
+use Rattle.dependency.proofs.opcodes.Single.{opened, read_passed, read_refused, reads_within}
 use Rattle.dependency.proofs.opcodes.Widths.{more_read}
 
 -- ---- the fuel
@@ -86,10 +86,6 @@ module _ (s : List ℕ) where
     reads_next h =
         let o = opened s c a e in
         unroll s ∙ rw (o.passed, ne_eqb (code_at s) end_code (λ q. h (sym o.code ∙ q)), o.code, o.place)
-
--- no bytes have no end
-pub reads_none : reading [] ≡ fault 305
-reads_none = reads_fault [] 305 (sym (read_none [] refl))
 
 -- ---- bytes after the end
 

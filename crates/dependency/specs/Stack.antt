@@ -8,7 +8,6 @@ use Rattle.common.specs.Answers.{Answer}
 use Rattle.common.specs.Refusal.{number}
 use Rattle.common.specs.Refusals.{first_refusal}
 use Rattle.common.specs.declared.refusal.Refusal.{Refusal}
-use Rattle.dependency.specs.Opcodes as opcodes
 use Rattle.dependency.specs.Opcodes.{Kind, version, truth, Installed, known, end_code, row_of}
 use Rattle.dependency.specs.Expression.{ended}
 use Rattle.dependency.specs.Validation.{result_kinds, kinds_after, on_top, stack_refusals, stack_limit, fault_from, validity}
@@ -62,14 +61,14 @@ cells_of (k ∷ kinds) [] = []
 cells_of (k ∷ kinds) (x ∷ stack) = number_cell k x ∷ cells_of kinds stack
 
 -- the version that an opcode gives is that of its row: PUSH_GUID's and PUSH_VERSION's
-pub record Given (code v : ℕ) (installed : Installed) (operand : List ℕ) : Type 0 where
+pub record Gives (code v : ℕ) (installed : Installed) (operand : List ℕ) : Type 0 where
   pub found : code ≡ 0 → v ≡ known (installed operand)
   pub number : code ≡ 1 → v ≡ le 4 operand 0
   pub there : is_missing (row_of code).operand (installed operand) ≡ false
 
-unfoldable pub Gives : std.Option ℕ → (code : ℕ) → Installed → List ℕ → Type 0
-Gives (Some v) code installed operand = Given code v installed operand
-Gives None code installed operand = is_missing (row_of code).operand (installed operand) ≡ true
+unfoldable pub Given : std.Option ℕ → (code : ℕ) → Installed → List ℕ → Type 0
+Given (Some v) code installed operand = Gives code v installed operand
+Given None code installed operand = is_missing (row_of code).operand (installed operand) ≡ true
 
 -- a depth at which an opcode takes no more than there is and puts no more than fits
 pub record Fits (code depth : ℕ) : Type 0 where
@@ -82,6 +81,6 @@ pub record Fits (code depth : ℕ) : Type 0 where
 unfoldable pub Stepped : (code v : ℕ) (stack after : List ℕ) → Type 0
 Stepped code v stack after =
     (kinds : List Kind) → length kinds ≡ length stack → on_top (row_of code).takes kinds ≡ true
-    → (installed : Installed) (operand : List ℕ) → Given code v installed operand
+    → (installed : Installed) (operand : List ℕ) → Gives code v installed operand
     → (length (kinds_after (row_of code).takes (row_of code).leaves kinds) ≡ length after)
     × (cells_of (kinds_after (row_of code).takes (row_of code).leaves kinds) after ≡ step installed (row_of code) operand (cells_of kinds stack))

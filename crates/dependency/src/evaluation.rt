@@ -4,7 +4,7 @@ ghost use Rattle.std.proofs.Math.Option.{none};
 ghost use Rattle.dependency.specs.Expression.{reading};
 ghost use Rattle.dependency.specs.Evaluation.{evaluated_answer, evaluate_of, outcome};
 ghost use Rattle.dependency.specs.Installed.{first_with};
-ghost use Rattle.dependency.specs.Stack.{Gives};
+ghost use Rattle.dependency.specs.Stack.{Given};
 ghost use Rattle.dependency.specs.Opcodes.{code_of};
 ghost use Rattle.dependency.specs.Validation.{fault_from};
 
@@ -48,7 +48,7 @@ pub fn evaluate(
 
 // The evaluation of an expression that passed the test. So no opcode takes more than there is, takes another kind than it asks for,
 // or leaves more than fits, and neither the stack's depth nor its kinds are tested again. The reader cannot refuse here, and there
-// is an end.
+// is an end. The walk over the opcodes stands here and in `validate`: an iterator would be a struct and an impl for these lines.
 fn run(expression: &[u8], installed: &Installed) -> Result<bool, Refusal>
     requires { fault_from (reading expression.now) [] ≡ none }
     ensures { evaluated_answer result ≡ outcome (first_with installed.now.rows.now installed.now.versions.now) (reading expression.now) [] }
@@ -71,8 +71,9 @@ fn run(expression: &[u8], installed: &Installed) -> Result<bool, Refusal>
 }
 
 // The version that an opcode with its operand gives: that of the installed firmware, or the operand itself; 0 where it gives none.
+#[tactic(auto, using(crate::proofs::evaluation::Runs::given_guid, crate::proofs::evaluation::Runs::given_number, crate::proofs::evaluation::Runs::given_none))]
 fn given_version(opcode: Opcode, operand: &[u8], installed: &Installed) -> Option<u32>
-    ensures { Gives result (code_of opcode) (first_with installed.now.rows.now installed.now.versions.now) operand.now }
+    ensures { Given result (code_of opcode) (first_with installed.now.rows.now installed.now.versions.now) operand.now }
 {
     match opcode {
         Opcode::PushGuid => installed.version_of(operand),

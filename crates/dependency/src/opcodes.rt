@@ -130,6 +130,7 @@ pub fn write_opcode(code: u8, operand: &[u8], room: &mut [u8]) -> Result<usize, 
 }
 
 // The length of a text with its zero; where it has none, one more than there are bytes.
+#[tactic(auto, using(crate::proofs::opcodes::Texts::text_at, crate::proofs::opcodes::Texts::text_out))]
 fn text_width(s: &[u8]) -> usize
     ensures { result ≡ text_width s.now }
 {

@@ -7,7 +7,7 @@ use common::Refusal;
 
 const STACK_LIMIT: usize = 32;
 
-// The kinds of values on the stack.
+// The kinds of values on the stack, with their digits.
 #[derive(Clone, Copy, Debug, PartialEq, Eq)]
 enum Kind {
     Version = 0,
@@ -67,7 +67,8 @@ impl Kinds {
         }
     }
 
-    // So many kinds are taken, which must be those asked for, by their digits, and one kind is left.
+    // So many kinds are taken, which must be those asked for, and one is left. Those asked for are given by their digits: 0b11 for two
+    // truths, 0b00 for two versions. Refused with 303, 304.
     fn replace(&mut self, taken: usize, asked: u64, left: Kind) -> Result<(), Refusal>
         requires few { taken ≤ 2 }
         requires digits { asked < 2 ^ taken }

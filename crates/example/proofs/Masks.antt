@@ -21,7 +21,7 @@ use Rattle.block_service.specs.Access.{count_moved}
 use Rattle.block_service.specs.Blocks.{place, start_of, length_of}
 use Rattle.block_service.specs.Erase.{end_of_list, good_list, names}
 use Rattle.block_service.specs.Service.{Result, step, perform, effect, refusals, lent_refusals, move_answer, erase_blocks, write}
-use Rattle.block_service.specs.declared.blocks.Place.TheVariants.{At}
+use Rattle.block_service.specs.Blocks.{At}
 use Rattle.block_service.proofs.Theorems.{written_erased}
 use Rattle.block_service.proofs.erase.Lists.{names-reaches}
 use Rattle.block_service.proofs.service.Erasing.{erase_named, empty_list}

@@ -8,7 +8,7 @@ use Rattle.volume.specs.Header.{opened, open_volume}
 use Rattle.volume.specs.State.{map_of}
 use Rattle.volume.specs.declared.state.State.{State}
 use Rattle.block_service.specs.Blocks.{place}
-use Rattle.block_service.specs.declared.blocks.Place.TheVariants.{At}
+use Rattle.block_service.specs.Blocks.{At}
 use Rattle.example.specs.Mask.{put_mask}
 use Rattle.example.proofs.Masks as Masks
 

@@ -1,8 +1,12 @@
 -- What a call answers as bytes (document 02, m: "count and 0, or first byte and end, go 64-bit into 16 lent bytes").
-use Rattle.std.specs.Prelude.{ℕ, ◌+◌, ◌*◌, ◌≡◌, true, cond, List, [], ◌∷◌, ◌++◌, ltb, length, drop}
+use Rattle.std.specs.Prelude.{refl, Err, ℕ, ◌+◌, ◌*◌, ◌≡◌, List, [], ◌∷◌, ◌++◌, ltb, length, drop}
 use Rattle.common.specs.Answers.{Answer, refused, success, short, number_of, values_of}
 use Rattle.common.specs.Refusals.{Row, row}
 use Rattle.numbers.specs.LittleEndian.{le_bytes}
+use Rattle.common.specs.Refusal.{number}
+use Rattle.common.specs.declared.refusal.Refusal.{Refusal}
+use Rattle.block_service.specs.Service.{moved_answer}
+use Rattle.volume.specs.ExtendedEntry.{entry_answer}
 use Rattle.fv.specs.declared.answer.Outcome.{Outcome}
 
 -- the bytes of an answer
@@ -40,16 +44,15 @@ entry_words (success (first ∷ [])) = success (first ∷ [])
 entry_words (success (first ∷ size ∷ [])) = success (first ∷ size ∷ [])
 entry_words (success (first ∷ size ∷ type ∷ rest)) = success (first ∷ (size + 65536 * type) ∷ [])
 
--- private to the code's contracts: what an outcome stores, and that it is the outcome of an answer
-abbrev pub outcome_stored : Outcome → (room : List ℕ) → List ℕ
-outcome_stored o room = cond o.stored (two_stored o.first o.second room) room
-
+-- private to the code's contracts: the outcome of an answer
 abbrev pub Gives : Outcome → Answer → Type 0
-Gives o a = (o.number ≡ number_of a) × ((room : List ℕ) → outcome_stored o room ≡ answer_stored (values_of a) room)
+Gives o a = (o.number ≡ number_of a) × ((room : List ℕ) → two_stored o.first o.second room ≡ answer_stored (values_of a) room)
 
--- private to the code's contracts: an outcome that stores two values, and that it is the outcome of a list of writes
-abbrev pub list_outcome : ℕ → ℕ → ℕ → Outcome
-list_outcome number first second = record { number = number; stored = true; first = first; second = second }
+-- a refusal's answer is its number
+pub moved_refusal : (e : Refusal) → moved_answer (Err e) ≡ refused (number e)
+unfolding moved_answer
+moved_refusal e = refl
 
-abbrev pub GivesList : Outcome → ℕ → Answer → Type 0
-GivesList o count last = (o.number ≡ number_of last) × ((room : List ℕ) → outcome_stored o room ≡ two_stored count (last_count last) room)
+pub entry_refusal : (e : Refusal) → entry_words (entry_answer (Err e)) ≡ refused (number e)
+unfolding entry_words entry_answer
+entry_refusal e = refl

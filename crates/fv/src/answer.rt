@@ -1,5 +1,18 @@
 // What a call answers, and the bytes that a caller lends for it.
-ghost use Rattle.std.specs.Prelude.{◌≡◌, ◌≤◌, length, Result, Ok, Err};
+#![tactic(
+    auto,
+    unfolding(
+        crate::specs::Answer::answer_stored,
+        crate::specs::Answer::entry_words,
+        crate::specs::Answer::last_count,
+        common::specs::Answers::number_of,
+        common::specs::Answers::values_of,
+        block_service::specs::Service::moved_answer,
+        volume::specs::ExtendedEntry::entry_answer
+    )
+)]
+
+ghost use Rattle.std.specs.Prelude.{◌≡◌, ◌≤◌, length, refl, Result, Ok, Err};
 ghost use Rattle.common.specs.Answers.{Answer, refused, number_of, values_of};
 ghost use Rattle.common.specs.Refusal.{number};
 ghost use Rattle.common.specs.declared.refusal.Refusal.{Refusal};
@@ -9,7 +22,7 @@ ghost use Rattle.dependency.specs.Opcodes.{read_answer};
 ghost use Rattle.sections.specs.Append.{appended_answer};
 ghost use Rattle.sections.specs.Search.{found_answer};
 ghost use Rattle.volume.specs.ExtendedEntry.{entry_answer};
-ghost use Rattle.fv.specs.Answer.{answer_bytes, answer_stored, entry_words, Gives, GivesList, last_count, two_stored};
+ghost use Rattle.fv.specs.Answer.{answer_bytes, answer_stored, entry_refusal, entry_words, Gives, last_count, moved_refusal, two_stored};
 
 use block_service::Moved;
 use common::Refusal;
@@ -103,7 +116,7 @@ impl Answered for Moved {
 impl Answered for Part {
     ghost answer = { found_answer };
 
-    ghost refusal = { found_refusal };
+    ghost refusal = { λ e. refl };
 
     fn outcome(self) -> Outcome {
         Outcome::success(self.first as u64, self.end as u64)
@@ -114,7 +127,7 @@ impl Answered for Part {
 impl Answered for usize {
     ghost answer = { appended_answer };
 
-    ghost refusal = { appended_refusal };
+    ghost refusal = { λ e. refl };
 
     fn outcome(self) -> Outcome {
         Outcome::success(self as u64, 0)
@@ -139,7 +152,7 @@ impl Answered for ExtEntry {
 impl Answered for Read {
     ghost answer = { read_answer };
 
-    ghost refusal = { opcode_refusal };
+    ghost refusal = { λ e. refl };
 
     fn outcome(self) -> Outcome {
         Outcome::success(u64::from(u8::from(self.opcode)), self.after as u64)
@@ -150,7 +163,7 @@ impl Answered for Read {
 impl Answered for bool {
     ghost answer = { evaluated_answer };
 
-    ghost refusal = { evaluated_refusal };
+    ghost refusal = { λ e. refl };
 
     fn outcome(self) -> Outcome {
         Outcome::success(u64::from(self), 0)

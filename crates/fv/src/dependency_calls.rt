@@ -1,5 +1,19 @@
 // The calls on dependency expressions (document 02, k): reading and writing single opcodes, the test, and the evaluation against a table of installed firmware that the
 // caller lends as bytes.
+#![tactic(
+    auto,
+    unfolding(
+        crate::specs::Called::answer_call,
+        crate::specs::DependencyCalls::write_opcode_call,
+        crate::specs::DependencyCalls::evaluate_call,
+        crate::specs::DependencyCalls::validate_call,
+        common::specs::Refusals::first_refusal,
+        common::specs::Answers::number_of,
+        common::specs::Answers::values_of
+    ),
+    using(std::proofs::lemmas::Bool::Decides::nat_tests)
+)]
+
 ghost use Rattle.std.specs.Prelude.{[], ◌∷◌, ◌≡◌, ◌≤◌, length};
 ghost use Rattle.volume.specs.Header.{words_at};
 ghost use Rattle.fv.specs.Called.{called};
@@ -38,7 +52,6 @@ pub fn fv_write_opcode(opcode: u8, operand: &[u8], room: &mut [u8], answer: &mut
 }
 
 // Tests an expression up to its end, whatever firmware is installed. Refused with 301 to 305, the first in reading order, at one opcode the lowest.
-#[tactic(auto, unfolding(common::specs::Answers::number_of))]
 pub fn fv_validate_dependency(expression: &[u8]) -> u32
     ensures { called result [] ≡ validate_call expression.now }
 {

@@ -23,8 +23,7 @@ use Rattle.volume.specs.Header.{Opens, opened, open_volume}
 use Rattle.block_service.specs.Service.{Call, get_attributes, set_attributes, get_physical_address, get_block_size, read, write, erase_blocks, protect_blocks, accept_erase, carry_erase}
 use Rattle.block_service.specs.Service.{reply, refusals, effect, decide, move_answer, carry_answer, Result, perform, step}
 use Rattle.volume.specs.State.{map_of, unlawful}
-use Rattle.block_service.specs.declared.blocks.Place.{Place}
-use Rattle.block_service.specs.declared.blocks.Place.TheVariants.{At, Missing}
+use Rattle.block_service.specs.Blocks.{Place, At, Missing}
 use Rattle.volume.specs.declared.state.State.{State}
 use Rattle.isolation.specs.Runs.{run, is_success, is_moved, names_block, same_list, carries_on, Breaks, touched, never, Standing, pending, finished, broken, answered, after, standing, is_finished, accepted, job_erases, erased_by, Alike, NoEarlyReadBy, NeverErasedBy, IsolatedBy, NoEarlyRead, Isolated}
 use Rattle.block_service.proofs.blocks.Places.{in_block-block_at, in_block_of_bounds, in_one_block, found_start, found_end, place_lost}

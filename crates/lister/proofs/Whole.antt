@@ -6,7 +6,6 @@ use lib.Seq.{take-append-le}
 use Rattle.std.specs.declared.option.Option.{Option}
 use Rattle.std.specs.Io.KnownBytes.{Appends, Consumes, IsAtEnd}
 use Rattle.listing.specs.Listing.{listing, ListedRoom, listed_room, listed_answer, list_volume}
-use Rattle.listing.specs.declared.Listed.TheVariants as Listed
 use Rattle.listing.proofs.Room.{list_done}
 
 -- a reader gave `got`, at most `most` bytes, and where it gave fewer it is at its end
@@ -26,7 +25,7 @@ first_bytes (Some xs) (Some ys) got most p h e = ap (take most) p ∙ go (ltb (l
 
 -- a text that was stored in a room that holds the listing is the listing
 pub listed_text : (s room after : List ℕ) (k : ℕ) → length (listing s) ≤ length room
-    → listed_room (listed_answer (Listed.Success k)) after ≡ list_volume s room → take k after ≡ listing s
+    → listed_room (listed_answer (Ok k)) after ≡ list_volume s room → take k after ≡ listing s
 unfolding listed_answer
 listed_text s room after k h call =
     let both = call ∙ list_done s room h in

@@ -2,11 +2,12 @@
 // listing, or `refused` and the number.
 #![tactic(auto)]
 
-ghost use Rattle.std.specs.Prelude.{◌≤◌, ◌<◌, IfOk, IfSome, OnOk, length, take};
-ghost use Rattle.std.specs.Io.KnownBytes.{Appends, Consumes, IsAtEnd};
+ghost use Rattle.std.specs.Prelude.{IfSome, OnOk, take};
+ghost use Rattle.std.specs.Io.KnownBytes.{Appends};
 ghost use Rattle.listing.specs.Listing.{listing};
 
-use listing::{Listed, list_volume};
+use input::read_full;
+use listing::list_volume;
 use std::io;
 use std::io::{Read, Write};
 
@@ -25,28 +26,9 @@ fn list<R: Read, W: Write>(from: &mut R, to: &mut W) -> io::Result<()>
     let mut input = [0u8; INPUT];
     let n = read_full(from, &mut input)?;
     let mut text = [0u8; 4096];
-    let listed = list_volume(&input[..n], &mut text);
-    match listed {
-        Listed::Success(k) => to.write_all(&text[..k]),
+    match list_volume(&input[..n], &mut text) {
+        Ok(k) => to.write_all(&text[..k]),
         // No listing is longer than the room: `unreachable` asks for a proof of that.
-        Listed::Refused(_) => unreachable!(),
+        Err(_) => unreachable!(),
     }
-}
-
-// Reads until the buffer is full or the input ends, and answers how many bytes came: they stand at
-// the buffer's start, in the input's order, and where they don't fill it the input is at its end.
-fn read_full<R: Read>(from: &mut R, buffer: &mut [u8]) -> io::Result<usize>
-    ensures bound { IfOk result (λ n. n ≤ length buffer.new) }
-    ensures bytes { IfOk result (λ n. Consumes (R.remaining from.old) (R.remaining from.new) (take n buffer.new)) }
-    ensures end { IfOk result (λ n. n < length buffer.new → IsAtEnd (R.remaining from.new)) }
-{
-    let mut done = 0;
-    while done < buffer.len() {
-        let n = from.read(&mut buffer[done..])?;
-        if n == 0 {
-            return Ok(done);
-        }
-        done += n;
-    }
-    Ok(done)
 }

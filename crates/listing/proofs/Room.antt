@@ -10,7 +10,9 @@ use lib.ListN.{length, drop}
 use Rattle.common.specs.Answers.{refused, success}
 use Rattle.common.specs.Refusals.{first_refusal}
 use Rattle.listing.specs.Listing.{listing, ListedRoom, listed_room, listed_answer, list_volume}
-use Rattle.listing.specs.declared.Listed.{Listed}
+use Rattle.std.specs.Prelude.{Result, Ok, Err}
+use Rattle.common.specs.Refusal.{number}
+use Rattle.common.specs.declared.refusal.Refusal.{Refusal}
 
 -- too short: 5, and the room stays
 pub list_refused : (s room : List ℕ) → length room < length (listing s) → list_volume s room ≡ listed_room (refused 5) room
@@ -30,11 +32,11 @@ success_same : (n k : ℕ) → success (n ∷ []) ≡ success (k ∷ []) → n �
 success_same n k e = cc
 
 -- of a call that answered `r` and left `after` in the room: a text that was stored lies in the room
-module _ (s room after : List ℕ) (r : Listed) (call : listed_room (listed_answer r) after ≡ list_volume s room) where
+module _ (s room after : List ℕ) (r : Result ℕ Refusal) (call : listed_room (listed_answer r) after ≡ list_volume s room) where
   answered : listed_answer r ≡ (list_volume s room).answer
   answered = ap (λ (l : ListedRoom). l.answer) call
 
-  pub listed_within : (k : ℕ) → r ≡ Listed.Success k → k ≤ length room
+  pub listed_within : (k : ℕ) → r ≡ Ok k → k ≤ length room
   unfolding listed_answer
   listed_within k e = go (ltb (length room) (length (listing s))) refl
     where
@@ -50,7 +52,7 @@ module _ (s room after : List ℕ) (r : Listed) (call : listed_room (listed_answ
           omega arith
 
   -- and where the room is long enough it is never refused
-  pub listed_fits : (n : ℕ) → length (listing s) ≤ length room → r ≡ Listed.Refused n → ⊥
+  pub listed_fits : (e : Refusal) → length (listing s) ≤ length room → r ≡ Err e → ⊥
   unfolding listed_answer
-  listed_fits n h e =
-      refused_no_success n _ (sym (ap listed_answer e) ∙ answered ∙ ap (λ (l : ListedRoom). l.answer) (list_done s room h))
+  listed_fits e h q =
+      refused_no_success (number e) _ (sym (ap listed_answer q) ∙ answered ∙ ap (λ (l : ListedRoom). l.answer) (list_done s room h))

@@ -1,2 +1,3 @@
 pub mod Decimal
 pub mod Listing
+pub mod Text

@@ -1,13 +1,14 @@
 -- The listing of a volume (document 01, "the lister"): its lines, as bytes, and the call that makes them in a room.
-use Rattle.std.specs.Prelude.{ℕ, ◌+◌, ◌*◌, List, [], ◌∷◌, ◌++◌, ltb, length, drop}
+use Rattle.std.specs.Prelude.{ℕ, ◌+◌, ◌*◌, List, [], ◌∷◌, ◌++◌, ltb, length, drop, Result, Ok, Err}
 use Rattle.common.specs.Answers.{Answer, refused, success, short, number_of}
+use Rattle.common.specs.Refusal.{number}
+use Rattle.common.specs.declared.refusal.Refusal.{Refusal}
 use Rattle.common.specs.Refusals.{row, first_refusal, unless_refused}
 use Rattle.volume.specs.BlockMap.{max_entries}
 use Rattle.volume.specs.Header.{open_volume}
 use Rattle.volume.specs.State.{map_of}
 use Rattle.volume.specs.declared.state.State.{State}
 use Rattle.listing.specs.Decimal.{decimal, max_digits}
-use Rattle.listing.specs.declared.Listed.{Listed}
 
 -- the words of the lines, in ASCII: "volume", "map", "refused"
 abbrev pub volume_word : List ℕ
@@ -86,10 +87,10 @@ pub record ListedRoom : Type 0 where
 abbrev pub listed_room : Answer → List ℕ → ListedRoom
 listed_room answer room = record { answer = answer; room = room }
 
--- the answer that each case of the code's enum stands for
-unfoldable pub listed_answer : Listed → Answer
-listed_answer (Listed.Success k) = success (k ∷ [])
-listed_answer (Listed.Refused n) = refused n
+-- what the code answers: the text's length, or a refusal with its number
+unfoldable pub listed_answer : Result ℕ Refusal → Answer
+listed_answer (Ok k) = success (k ∷ [])
+listed_answer (Err e) = refused (number e)
 
 -- listing a volume's bytes into a room: the text's length, and the text at the room's start; 5 where the room is too short, and it stays as
 -- it was

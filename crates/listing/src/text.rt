@@ -1,57 +1,92 @@
-// Words and numbers as text, stored at a place.
-ghost use Rattle.std.specs.Prelude.{◌≡◌, ◌+◌, ◌≤◌, ◌<◌, ◌^◌, length};
-ghost use Rattle.std.proofs.lemmas.List.Edits.{sets};
-ghost use Rattle.listing.specs.Decimal.{digits, max_digits, places};
-ghost use Rattle.listing.specs.Listing.{field, max_field};
+// A text that is appended to, with numbers in decimal.
 
-const TAB: u64 = 9;
+// The length that no listing of a volume exceeds.
+pub(crate) const MAX_LISTING: usize = 2214;
 
-// The digit 0, in ASCII.
-const ZERO: u64 = 48;
+// The most digits of a number of 64 bits.
+const MAX_DIGITS: usize = 20;
 
-// Stores a word, and answers the place after it.
-pub(crate) fn put_word(room: &mut [u8], at: usize, word: &[u8]) -> usize
-    requires { at + length word.now < 2 ^ 64 }
-    ensures { (result ≡ at + length word.now) × (room.new ≡ sets room.old at word.now) }
-{
-    numbers::store_bytes(room, at, word);
-    at + word.len()
+// A text of at most MAX_LISTING bytes, the first `len` of the buffer: the project uses no heap.
+#[derive(Drop)]
+pub(crate) struct Text {
+    bytes: [u8; MAX_LISTING],
+    len: usize,
 }
 
-// Stores a tab and a number in decimal, and answers the place after it.
-pub(crate) fn put_field(room: &mut [u8], at: usize, x: u64) -> usize
-    requires { at + max_field < 2 ^ 64 }
-    ensures { (result ≡ at + length (field x)) × (room.new ≡ sets room.old at (field x)) × (result ≤ at + max_field) }
-{
-    let k = count_digits(x);
-    numbers::store(room, at, 1, TAB);
-    put_digits(room, at + 1, k, x);
-    at + 1 + k
-}
+impl Text {
+    ghost use Rattle.std.specs.Prelude.{[], ◌≡◌, ◌+◌, ◌≤◌, ◌++◌, length};
+    ghost use Rattle.listing.specs.Decimal.{decimal, max_digits};
+    ghost use Rattle.listing.specs.Listing.{field, line, max_field, max_line, max_listing};
+    ghost use Rattle.listing.specs.Text.{text_of};
 
-// How many decimal digits a number has.
-fn count_digits(x: u64) -> usize
-    ensures { (result ≡ places x) × (result ≤ max_digits) }
-{
-    let mut k = 1;
-    let mut rest = x;
-    while 10 <= rest {
-        rest = rest / 10;
-        k += 1;
+    // The empty text.
+    pub(crate) fn new() -> Text
+        ensures text { text_of result ≡ [] }
+        ensures len { result.len ≡ 0 }
+    {
+        Text {
+            bytes: [0; MAX_LISTING],
+            len: 0,
+        }
     }
-    k
-}
 
-// Stores the last k digits of a number, from the last to the first.
-fn put_digits(room: &mut [u8], at: usize, k: usize, x: u64)
-    requires { at + k < 2 ^ 64 }
-    ensures { room.new ≡ sets room.old at (digits k x) }
-{
-    let mut rest = x;
-    let mut i = k;
-    while 0 < i {
-        i -= 1;
-        numbers::store(room, at + i, 1, ZERO + rest % 10);
-        rest = rest / 10;
+    // Its bytes.
+    pub(crate) fn as_bytes(&self) -> &[u8]
+        requires { self.now.len ≤ max_listing }
+        ensures { result.now ≡ text_of self.now }
+    {
+        &self.bytes[..self.len]
+    }
+
+    // Appends bytes.
+    pub(crate) fn push(&mut self, s: &[u8])
+        requires { self.old.len + length s.now ≤ max_listing }
+        ensures text { text_of self.new ≡ text_of self.old ++ s.now }
+        ensures len { self.new.len ≡ self.old.len + length s.now }
+    {
+        let end = self.len + s.len();
+        self.bytes[self.len..end].copy_from_slice(s);
+        self.len = end;
+    }
+
+    // Appends a number. Its digits are made from the last to the first.
+    fn push_number(&mut self, x: u64)
+        requires { self.old.len + max_digits ≤ max_listing }
+        ensures text { text_of self.new ≡ text_of self.old ++ decimal x }
+        ensures bound { self.new.len ≤ self.old.len + max_digits }
+    {
+        let mut digits = [0u8; MAX_DIGITS];
+        let mut start = MAX_DIGITS - 1;
+        let mut rest = x;
+        while 10 <= rest {
+            digits[start] = b'0' + (rest % 10) as u8;
+            start -= 1;
+            rest /= 10;
+        }
+        digits[start] = b'0' + rest as u8;
+        self.push(&digits[start..]);
+    }
+
+    // Appends a tab and a number.
+    pub(crate) fn push_field(&mut self, x: u64)
+        requires { self.old.len + max_field ≤ max_listing }
+        ensures text { text_of self.new ≡ text_of self.old ++ field x }
+        ensures bound { self.new.len ≤ self.old.len + max_field }
+    {
+        self.push(b"\t");
+        self.push_number(x);
+    }
+
+    // Appends a line: its word, three fields and a line feed.
+    pub(crate) fn push_line(&mut self, word: &[u8], x: u64, y: u64, z: u64)
+        requires { self.old.len + max_line word.now ≤ max_listing }
+        ensures text { text_of self.new ≡ text_of self.old ++ line word.now x y z }
+        ensures bound { self.new.len ≤ self.old.len + max_line word.now }
+    {
+        self.push(word);
+        self.push_field(x);
+        self.push_field(y);
+        self.push_field(z);
+        self.push(b"\n");
     }
 }

@@ -19,8 +19,8 @@ pub data Phase : Type 0 where
   Exceeded : Phase
   Refused : (number : ℕ) → Phase
 
--- a byte of the file, how many bytes are left in the stream that it is in, and of each of `depth` sections that are entered what follows it in the stream that
--- holds it: padding, and the bytes behind that
+-- a byte of the file, how many bytes are left in the stream that it is in, and of each of `depth` sections that are entered what follows it in the
+-- stream that holds it: padding, and the bytes behind that
 pub record Place : Type 0 where
   pub phase : Phase
   pub at : ℕ
@@ -68,6 +68,7 @@ arrived (suc d) at left lefts pads =
     let outwards = cond (pad == 0) (arrived d at (slice_index lefts d) lefts pads) padded in
     cond (left == 0) outwards (started at left (suc d) lefts pads)
 
+-- the same of a place
 abbrev pub onwards : Place → Place
 onwards p = arrived p.depth p.at p.left p.lefts p.pads
 

@@ -13,7 +13,8 @@ use Rattle.receiver.specs.Place.{Phase, Header, Body, Padding, Complete, Exceede
 use Rattle.receiver.specs.declared.receiver.Receiver as Code
 use Rattle.receiver.specs.declared.receiver.Received.{Received}
 
--- the state between portions: what is wanted, what was met, where it is in the file, and the bytes that came of a header that is not whole yet, zero behind them
+-- the state between portions: what is wanted, what was met, where it is in the file, and the bytes that came of a header that is not whole yet, zero
+-- behind them
 pub record Receiver : Type 0 where
   pub mode : Mode
   pub want : ℕ

@@ -11,6 +11,4 @@ pub mod place;
 pub mod receiver;
 pub mod tally;
 
-pub use crate::receiver::{
-    Received, Receiver,
-};
+pub use crate::receiver::{Received, Receiver};

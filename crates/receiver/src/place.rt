@@ -1,5 +1,5 @@
 // Where in the file a receiver is, and what comes next there.
-ghost use Rattle.std.specs.Prelude.{◌≡◌, ◌-◌, ◌<◌, ◌≤◌};
+ghost use Rattle.std.specs.Prelude.{◌≡◌, ◌<◌, ◌≤◌};
 ghost use Rattle.receiver.specs.Place.{entered, onwards, padding, place_of};
 ghost use Rattle.receiver.specs.Receiver.{padding_step};
 ghost use Rattle.receiver.specs.Steps.{body_place, body_used};
@@ -49,10 +49,12 @@ impl Place {
     // Once every byte before byte `at` came: at the end of a stream what follows the section that it is
     // in, and so on outwards; else a section, or 201.
     #[tactic(auto, unfolding(crate::specs::Place::arrived, crate::specs::Place::started))]
+    #[inline(always)]
     pub(crate) fn arrive(&mut self)
         requires { self.old.depth ≤ 8 }
         ensures { place_of self.new ≡ onwards (place_of self.old) }
     {
+        // Each turn goes out of a section that ends here.
         while self.left == 0 {
             if self.depth == 0 {
                 self.phase = Phase::Complete;
@@ -77,6 +79,7 @@ impl Place {
     // Enters the section at byte `at`, of `size` bytes, of which `have` came: its contents, from its byte
     // `from` on, are a stream of their own, which is empty where they are not searched.
     #[tactic(auto, unfolding(crate::specs::Place::entered))]
+    #[inline(always)]
     pub(crate) fn enter(&mut self, size: usize, from: usize, have: usize)
         requires { self.old.depth < 8 }
         ensures { place_of self.new ≡ entered (place_of self.old) size from have }
@@ -100,6 +103,7 @@ impl Place {
     // In a body of which n bytes are to come, with `there` bytes of the portion left: how many of them it
     // takes.
     #[tactic(auto, unfolding(crate::specs::Steps::body_place, crate::specs::Steps::body_used))]
+    #[inline(always)]
     pub(crate) fn pass_body(&mut self, n: usize, there: usize) -> usize
         requires { self.old.depth ≤ 8 }
         ensures place { place_of self.new ≡ body_place (place_of self.old) n there }
@@ -115,6 +119,7 @@ impl Place {
 
     // One byte more of padding of which n bytes are to come.
     #[tactic(auto, unfolding(crate::specs::Receiver::padding_step, crate::specs::Receiver::passed))]
+    #[inline(always)]
     pub(crate) fn pass_padding(&mut self, n: usize, byte: u8)
         requires { self.old.depth ≤ 8 }
         ensures { place_of self.new ≡ padding_step (place_of self.old) n byte }

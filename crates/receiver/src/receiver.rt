@@ -1,7 +1,7 @@
 // The calls of a receiver: the announcement, a portion, the finish, and the fault found so far.
-ghost use Rattle.std.specs.Prelude.{◌≡◌, ◌+◌, ◌<◌, ◌≤◌, true, length, take, replicate};
+ghost use Rattle.std.specs.Prelude.{◌≡◌, ◌<◌, ◌≤◌, true, length, replicate};
 ghost use Rattle.common.specs.Refusal.{number};
-ghost use Rattle.sections.specs.Partial.{partial_answer, partial_of};
+ghost use Rattle.sections.specs.Partial.{partial_answer};
 ghost use Rattle.receiver.specs.Receiver.{announced, announced_by, announcement_answer, announce_of, fault_answer, fault_of, finish_of, portion_of, received_answer, receiver_of, refused_by, sound};
 ghost use Rattle.receiver.specs.Receiver.{begun, looked, met as met_of, refused as refused_of, stepped};
 ghost use Rattle.receiver.specs.Place.{Complete, Header as HeaderOf, placed};
@@ -74,6 +74,7 @@ impl Receiver {
             return;
         }
         let mut rest = portion;
+        // Each turn takes as many bytes as its step answers.
         while !rest.is_empty() {
             let used = self.step(rest);
             rest = &rest[used..];
@@ -87,11 +88,15 @@ impl Receiver {
         ensures { received_answer result ≡ finish_of (receiver_of self.now) }
     {
         match self.place.phase {
-            Phase::Header(_) | Phase::Body(_) | Phase::Padding(_) | Phase::Exceeded =>
-                Err(Refusal::WrongTotal),
+            Phase::Header(_) | Phase::Body(_) | Phase::Padding(_) | Phase::Exceeded => Err(
+                Refusal::WrongTotal,
+            ),
             Phase::Complete => {
                 let part = self.tally.part.ok_or(Refusal::NotFound)?;
-                Ok(Received { count: self.tally.count, part })
+                Ok(Received {
+                    count: self.tally.count,
+                    part,
+                })
             }
             Phase::Refused(refusal) => Err(refusal),
         }
@@ -144,20 +149,20 @@ impl Receiver {
     }
 
     // Takes the first of these bytes, as far as they are taken at once, and answers how many: a header
-    // where 28 bytes are there, or one byte of it; a body, or what is there of it; one byte of padding;
-    // all that does not matter.
+    // where 28 bytes are there, with what is there of the body behind it, or one byte of a header; a body,
+    // or what is there of it; one byte of padding; all that does not matter. It and what it calls are
+    // marked to be compiled into `receive`: a section goes through memory at each call that is left.
+    #[inline(always)]
     fn step(&mut self, bytes: &[u8]) -> usize
         requires { (sound (receiver_of self.old) ≡ true) × (0 < length bytes.now) }
         ensures { Taken (receiver_of self.old) bytes.now (receiver_of self.new) result }
     {
         match self.place.phase {
-            Phase::Header(have) => match bytes.first_chunk() {
-                Some(header) if have == 0 => self.whole_header(header),
-                _ => {
-                    self.header_byte(have, bytes[0]);
-                    1
-                }
-            },
+            Phase::Header(0) if LONGEST_HEADER <= bytes.len() => self.whole_header(bytes),
+            Phase::Header(have) => {
+                self.header_byte(have, bytes[0]);
+                1
+            }
             Phase::Body(n) => self.place.pass_body(n, bytes.len()),
             Phase::Padding(n) => {
                 self.place.pass_padding(n, bytes[0]);
@@ -171,20 +176,28 @@ impl Receiver {
         }
     }
 
-    // The header at the start of these bytes, none of which is held: how many it has.
-    fn whole_header(&mut self, bytes: &[u8; LONGEST_HEADER]) -> usize
-        requires { self.old.place.depth ≤ 8 }
-        ensures used { let r = receiver_of self.old in result ≡ header_bytes (partial_of r.mode bytes.now 28 r.place.left) }
-        ensures receiver { let r = receiver_of self.old in let look = partial_of r.mode bytes.now 28 r.place.left in receiver_of self.new ≡ looked r r.header (header_bytes look) look }
+    // A header of which no byte is held, at the start of these bytes, and of the body after it what is
+    // there.
+    #[inline(always)]
+    fn whole_header(&mut self, bytes: &[u8]) -> usize
+        requires { (sound (receiver_of self.old) ≡ true) × ((receiver_of self.old).place.phase ≡ HeaderOf 0) × (28 ≤ length bytes.now) }
+        ensures { Taken (receiver_of self.old) bytes.now (receiver_of self.new) result }
     {
-        let look = read_partial(self.mode, bytes, LONGEST_HEADER, self.place.left);
+        let header = bytes.first_chunk().unwrap();
+        let look = read_partial(self.mode, header, LONGEST_HEADER, self.place.left);
         let used = header_bytes(&look);
         self.look(used, look);
-        used
+        match self.place.phase {
+            Phase::Body(n) if used < bytes.len() => {
+                used + self.place.pass_body(n, bytes.len() - used)
+            }
+            _ => used,
+        }
     }
 
     // One byte more of a header of which `have` bytes are held.
     #[tactic(auto, unfolding(crate::specs::Receiver::stepped))]
+    #[inline(always)]
     fn header_byte(&mut self, have: usize, byte: u8)
         requires { (self.old.place.depth ≤ 8) × (have < 28) }
         ensures { receiver_of self.new ≡ stepped (HeaderOf have) (receiver_of self.old) byte }
@@ -198,6 +211,7 @@ impl Receiver {
     // unless more are to come. The contents of a section are a level of their own, and those that are
     // searched have sections, for which one more is kept.
     #[tactic(auto, unfolding(crate::specs::Receiver::looked, sections::specs::Partial::partial_answer, sections::specs::Partial::decided))]
+    #[inline(always)]
     fn look(&mut self, have: usize, look: Result<Option<Section>, Refusal>)
         requires { self.old.place.depth ≤ 8 }
         ensures { receiver_of self.new ≡ looked (receiver_of self.old) self.old.header have (partial_answer look) }
@@ -224,6 +238,7 @@ impl Receiver {
     // At a section whose contents, or its end where they are not searched, are from `from` on, in places
     // counted from its first byte; `have` bytes of it came.
     #[tactic(auto, unfolding(crate::specs::Receiver::met))]
+    #[inline(always)]
     fn meet(&mut self, section: Section, from: usize, have: usize)
         requires { self.old.place.depth < 8 }
         ensures { receiver_of self.new ≡ met_of (receiver_of self.old) section.section_type section.first from section.end have }

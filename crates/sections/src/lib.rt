@@ -3,9 +3,9 @@
 // holders, searching a stream, the first section of a type without the rest, and appending a leaf.
 //
 // No public function here has a `requires`: whatever the bytes are, the answer is a value or one of
-// document 01's refusal numbers. `header` has the mode, which the caller chooses, and no public
-// function; nor has `walk`. Both are public also so that crates above can cite their laws. `partial` is
-// for a crate that takes a stream in portions.
+// document 01's refusals. `header` has the mode, which the caller chooses, with the limit of a stream, and
+// what a section header says; `walk` has no public function, and is public also so that crates above can
+// cite its laws. `partial` is for a crate that takes a stream in portions.
 #![tactic(auto)]
 
 pub mod append;

@@ -1,8 +1,9 @@
 // Searching a section stream for a type and an instance, and for the first section of a type.
-ghost use Rattle.std.specs.Prelude.{None, ◌≡◌};
+ghost use Rattle.std.specs.Prelude.{◌≡◌};
 ghost use Rattle.sections.specs.Search.{found_answer, search_of, search_first_of};
 ghost use Rattle.sections.specs.Seek.{seek_answer, run, carried};
 ghost use Rattle.sections.specs.Walk.{stream_walk};
+ghost use Rattle.sections.specs.declared.walk.Walk.TheVariants.{Ended};
 
 use crate::header::Mode;
 use crate::walk::{Wanted, walk_stream};
@@ -53,13 +54,13 @@ pub fn search_first(mode: Mode, stream: &[u8], section_type: u8) -> Result<Part,
 }
 
 // What the walk comes to: the part of the section wanted, where it stopped there or met it.
-#[tactic(auto, using(crate::proofs::search::Shown::sought_206, crate::proofs::search::Shown::sought_walk, crate::proofs::search::Shown::sought_fault, crate::proofs::walk::Carried::answer_end))]
+#[tactic(auto, using(crate::proofs::search::Shown::sought_206, crate::proofs::search::Shown::sought_end, crate::proofs::search::Shown::sought_fault))]
 fn sought(mode: Mode, stream: &[u8], mut wanted: Wanted) -> Result<Part, Refusal>
-    ensures { found_answer result ≡ seek_answer (run wanted.section_type (carried None wanted) (stream_walk mode stream.now)) }
+    ensures { found_answer result ≡ seek_answer (run wanted.section_type (carried Ended wanted) (stream_walk mode stream.now)) }
 {
     if mode.stream_limit() < stream.len() {
         return Err(Refusal::StreamTooLong);
     }
-    let stopped = walk_stream(mode, stream, 0, LEVELS_BELOW, &mut wanted)?;
-    stopped.or(wanted.found).ok_or(Refusal::NotFound)
+    walk_stream(mode, stream, 0, LEVELS_BELOW, &mut wanted)?;
+    wanted.found.ok_or(Refusal::NotFound)
 }

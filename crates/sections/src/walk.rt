@@ -1,8 +1,9 @@
 // The walk through a section stream and the holders in it.
-ghost use Rattle.std.specs.Prelude.{None, ◌≡◌, ◌+◌, ◌-◌, ◌≤◌, ◌<◌, ◌^◌, true, false, length, MatchResult};
+ghost use Rattle.std.specs.Prelude.{◌≡◌, ◌+◌, ◌-◌, ◌≤◌, ◌<◌, ◌^◌, true, false, length, MatchResult};
 ghost use Rattle.common.specs.declared.refusal.Refusal.TheVariants.{NonzeroPadding};
 ghost use Rattle.sections.specs.Walk.{aligned as aligned_of, walk, zeros};
 ghost use Rattle.sections.specs.Seek.{run, carried, walked};
+ghost use Rattle.sections.specs.declared.walk.Walk.TheVariants.{Ended};
 
 use crate::header::{Mode, Section, read_section};
 use crate::search::Part;
@@ -11,8 +12,15 @@ use common::refusal::Refusal;
 // Sections start on multiples of this, counted from the start of the stream that holds them.
 const ALIGNMENT: usize = 4;
 
+// How a walk came to its end without a fault: at the end of its stream, or at the section wanted.
+#[derive(Clone, Copy, Debug, PartialEq, Eq)]
+pub(crate) enum Walk {
+    Ended,
+    Stopped,
+}
+
 // The section that a walk looks for: one of a type that has `left` sections of that type before it, and
-// whether the walk stops there. Where it goes on, `found` is the part of the section once it is met.
+// whether the walk stops there. `found` is its part, once it is met.
 #[derive(Clone, Copy, Debug, PartialEq, Eq)]
 pub(crate) struct Wanted {
     pub(crate) section_type: u8,
@@ -22,69 +30,71 @@ pub(crate) struct Wanted {
 }
 
 impl Wanted {
+    ghost use Rattle.sections.specs.declared.walk.Walk.TheVariants.{Ended};
     ghost use Rattle.sections.specs.Seek.{visited, carried};
 
-    // At a section of a stream that starts at byte `base` of the outer one: its part, where the walk stops there.
+    // At a section of a stream that starts at byte `base` of the outer one: whether the walk stops there.
     #[tactic(auto, unfolding(crate::specs::Seek::visited), using(crate::proofs::walk::Carried::visit_other, crate::proofs::walk::Carried::visit_after))]
-    fn visit(&mut self, section: &Section, base: usize) -> Option<Part>
+    fn visit(&mut self, section: &Section, base: usize) -> Walk
         requires { (base + section.now.first < 2 ^ 64) × (base + section.now.end < 2 ^ 64) }
         ensures same { self.new.section_type ≡ self.old.section_type }
-        ensures visited { carried result self.new ≡ visited self.old.section_type (carried None self.old) section.now.section_type (base + section.now.first) (base + section.now.end) }
+        ensures visited { carried result self.new
+            ≡ visited self.old.section_type (carried Ended self.old) section.now.section_type (base + section.now.first) (base + section.now.end) }
     {
         if section.section_type != self.section_type || self.found.is_some() {
-            return None;
+            return Walk::Ended;
         }
         if self.left > 0 {
             self.left -= 1;
-            return None;
+            return Walk::Ended;
         }
-        let part = Part {
+        self.found = Some(Part {
             first: base + section.first,
             end: base + section.end,
-        };
+        });
         if self.stops {
-            return Some(part);
+            Walk::Stopped
+        } else {
+            Walk::Ended
         }
-        self.found = Some(part);
-        None
     }
 }
 
-// Walks a stream that starts at byte `base` of the outer one, with `below` levels left below it, and
-// answers the first fault, or the part of the section wanted where it stopped there, or None at its end.
-// What it carries along is lent to it (docs/DECISIONS.md, 69 and 73). One pass: each section is read once,
-// and the calls are as deep as the levels.
+// Walks a stream that starts at byte `base` of the outer one, with `below` levels left below it, up to its
+// end, or up to the section wanted where it stops there, or up to its first fault, which is answered. What
+// it carries along is lent to it (docs/DECISIONS.md, 69 and 73). One pass: each section is read once, and the
+// calls are as deep as the levels.
 pub(crate) fn walk_stream(
     mode: Mode,
     s: &[u8],
     base: usize,
     below: u64,
     wanted: &mut Wanted,
-) -> Result<Option<Part>, Refusal>
+) -> Result<Walk, Refusal>
     requires { base + length s.now < 2 ^ 63 }
     ensures same { wanted.new.section_type ≡ wanted.old.section_type }
-    ensures walked { walked result wanted.new ≡ run wanted.old.section_type (carried None wanted.old) (walk mode below s.now base) }
+    ensures walked { walked result wanted.new ≡ run wanted.old.section_type (carried Ended wanted.old) (walk mode below s.now base) }
 {
     let mut at = 0;
     // Each turn goes on to the start after the section that it read.
     while at < s.len() {
         let section = read_section(mode, s, at)?;
-        if below == 0 && section.contents.is_some() {
+        if section.contents.is_some() && below == 0 {
             return Err(Refusal::TooDeep);
         }
-        let stopped = wanted.visit(&section, base); // a holder before its children
-        if stopped.is_some() {
-            return Ok(stopped);
+        // A holder before its children.
+        if let Walk::Stopped = wanted.visit(&section, base) {
+            return Ok(Walk::Stopped);
         }
         if let Some(from) = section.contents {
-            let inner = walk_stream(mode, &s[from..section.end], base + from, below - 1, wanted)?;
-            if inner.is_some() {
-                return Ok(inner);
+            let contents = &s[from..section.end];
+            if let Walk::Stopped = walk_stream(mode, contents, base + from, below - 1, wanted)? {
+                return Ok(Walk::Stopped);
             }
         }
         at = next_start(s, section.end)?;
     }
-    Ok(None)
+    Ok(Walk::Ended)
 }
 
 // The start after a section that ends at byte `end`, or 207 where a byte of its padding is not zero. Padding
@@ -96,8 +106,7 @@ fn next_start(s: &[u8], end: usize) -> Result<usize, Refusal>
         (λ refusal. (refusal ≡ NonzeroPadding) × (zeros s.now end (aligned_of end - end) ≡ false)) }
 {
     let next = aligned(end);
-    let padding = &s[end..next.min(s.len())];
-    if padding.iter().all(|&byte| byte == 0) {
+    if s[end..].iter().take(next - end).all(|&byte| byte == 0) {
         Ok(next)
     } else {
         Err(Refusal::NonzeroPadding)

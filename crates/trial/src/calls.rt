@@ -194,6 +194,6 @@ fn erase_call(
     field(out, k)?;
     done_field(
         out,
-        erase_blocks(state, &mut volume[..n], &Words(&words[..k])),
+        erase_blocks(state, &mut volume[..n], Words(&words[..k])),
     )
 }

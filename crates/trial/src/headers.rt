@@ -4,13 +4,10 @@ use crate::print::{
     words_field,
 };
 use crate::script::{item, number, prefix, prepare, words_of};
-use common::Refusal;
 use listing::list_volume;
 use numbers::{store_bytes, u16_at, u32_at};
 use std::io;
-use volume::{
-    ExtEntry, State, ext_entry, open_volume, word_sum, write_header, write_pi_header,
-};
+use volume::{Edition, ExtEntry, State, ext_entry, open_volume, word_sum, write_header};
 
 // The most bytes of a volume that is opened.
 const VOLUME: usize = 4096;
@@ -61,36 +58,40 @@ pub(crate) fn state_fields(out: &impl Print, state: &State) -> io::Result<()> {
 // Writing a header: the room's length, the GUID, the volume's length, the attributes, the map's
 // words, the pattern and the bytes that the room holds before; of edition 2, the offset too.
 pub(crate) fn write_case(out: &impl Print, case: &[u8]) -> io::Result<()> {
-    write_call(out, case, "write header", |guid, map, room| {
-        write_header(guid, number(case, 4), u32_at(item(case, 5), 0), map, room)
-    })
+    write_call(out, case, "write header", Edition::Framework)
 }
 
 pub(crate) fn write_pi_case(out: &impl Print, case: &[u8]) -> io::Result<()> {
-    let offset = u16_at(item(case, 9), 0);
-    write_call(out, case, "write pi header", |guid, map, room| {
-        write_pi_header(offset, guid, number(case, 4), u32_at(item(case, 5), 0), map, room)
-    })
+    let ext_header_offset = u16_at(item(case, 9), 0);
+    write_call(
+        out,
+        case,
+        "write pi header",
+        Edition::Pi { ext_header_offset },
+    )
 }
 
-fn write_call(
-    out: &impl Print,
-    case: &[u8],
-    call: &str,
-    write: impl FnOnce([u8; 16], &[u32], &mut [u8]) -> Result<usize, Refusal>,
-) -> io::Result<()> {
+fn write_call(out: &impl Print, case: &[u8], call: &str, edition: Edition) -> io::Result<()> {
     let mut guid = [0u8; 16];
     store_bytes(&mut guid, 0, item(case, 3));
+    let attributes = u32_at(item(case, 5), 0);
     let given = item(case, 6);
     let mut words = [0u32; 80];
     words_of(given, 4, |bytes| u32_at(bytes, 0), &mut words);
+    let map = &words[..words.len().min(given.len() / 4)];
     let mut before = [0u8; 512];
     prepare(item(case, 8), item(case, 7), &mut before);
     let mut room = before;
-    let k = words.len().min(given.len() / 4);
     let n = room.len().min(number(case, 2) as usize);
     begin(out, case, call)?;
-    match write(guid, &words[..k], &mut room[..n]) {
+    match write_header(
+        edition,
+        guid,
+        number(case, 4),
+        attributes,
+        map,
+        &mut room[..n],
+    ) {
         Ok(len) => fields(out, &[0, len as u64])?,
         Err(refusal) => refusal_field(out, refusal)?,
     }

@@ -21,14 +21,19 @@ pub(crate) fn header_length(n: usize) -> usize
     EMPTY_HEADER + ENTRY_LENGTH * n
 }
 
-// Whether some word is zero. All are counted, with no way out at the first, so that it compiles to vector code.
+// Whether some word is zero. The loop has no way out at the first, so that it compiles to vector code: `iter().any(..)` has one, and
+// `filter(..).count()` branches at each word.
 pub(crate) fn has_zero(words: &[u32]) -> bool
     ensures { result ≡ has_zero words.now }
 {
-    words.iter().filter(|word| **word == 0).count() != 0
+    let mut found = false;
+    for word in words {
+        found |= *word == 0;
+    }
+    found
 }
 
-// Whether every word is zero. All are gathered, for the same reason.
+// Whether every word is zero. The words are gathered, for the same reason.
 pub(crate) fn all_zero(words: &[u32]) -> bool
     ensures { result ≡ all_zero words.now }
 {

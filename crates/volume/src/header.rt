@@ -7,7 +7,7 @@ ghost use Rattle.volume.specs.Header.{bytes_refusals, fields_refusals, header_le
 ghost use Rattle.volume.specs.BlockMap.{entry_length};
 
 use crate::attributes::{attributes_fault, base_fault, edition_fault};
-use crate::block_map::{EMPTY_HEADER, ENTRY_LENGTH, count_blocks, has_zero, map_fault};
+use crate::block_map::{EMPTY_HEADER, ENTRY_LENGTH, has_zero, map_fault};
 use crate::extended_header::ext_fault;
 use crate::state::State;
 use common::Refusal;
@@ -41,11 +41,24 @@ const LONGEST_HEADER: usize = 320;
 
 // Opens a volume of either edition: answers the state that its header and the base address give, no block of it protected,
 // or the first of 101 to 110 and 112 that applies. Only the header is read, and in edition 2 the extended header.
+#[tactic(auto, using(crate::proofs::header::Fields::readable, std::proofs::lemmas::Grind::common_steps))]
 pub fn open_volume(volume: &[u8], base: u64) -> Result<State, Refusal>
     ensures { opening_of result ≡ open_volume volume.now base }
 {
     test_bytes(volume)?;
-    let state = state_at(volume, base);
+    let header = usize::from(numbers::u16_at(volume, HEADER_LENGTH));
+    let mut state = State {
+        guid: guid_at(volume),
+        length: numbers::u64_at(volume, LENGTH),
+        attributes: numbers::u32_at(volume, ATTRIBUTES),
+        edition: u32::from(numbers::byte_at(volume, REVISION)),
+        base,
+        protected: 0,
+        entries: (header - EMPTY_HEADER) / ENTRY_LENGTH,
+        map: [0; 64],
+    };
+    read_map(volume, state.entries, &mut state.map);
+    state.protected = state.block_count();
     test_fields(volume, &state)?;
     Ok(state)
 }
@@ -72,27 +85,6 @@ fn test_bytes(s: &[u8]) -> Result<(), Refusal>
         return Err(Refusal::WrongWordSum);
     }
     Ok(())
-}
-
-// The state that a header of a good length gives.
-#[tactic(auto, using(crate::proofs::header::Fields::readable, std::proofs::lemmas::Grind::common_steps))]
-fn state_at(s: &[u8], base: u64) -> State
-    requires { first_refusal (bytes_refusals s.now) ≡ none }
-    ensures { result ≡ state_at s.now base }
-{
-    let entries = (usize::from(numbers::u16_at(s, HEADER_LENGTH)) - EMPTY_HEADER) / ENTRY_LENGTH;
-    let mut map = [0u32; 64];
-    read_map(s, entries, &mut map);
-    State {
-        guid: guid_at(s),
-        length: numbers::u64_at(s, LENGTH),
-        attributes: numbers::u32_at(s, ATTRIBUTES),
-        edition: u32::from(numbers::byte_at(s, REVISION)),
-        base,
-        protected: count_blocks(&map[..2 * entries]),
-        entries,
-        map,
-    }
 }
 
 // The table's other rows, 106 to 110 and 112, of what the state would be.

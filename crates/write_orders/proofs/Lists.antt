@@ -15,7 +15,7 @@ use Rattle.volume.specs.declared.state.State.{State}
 use Rattle.block_service.specs.Access.{count_moved}
 use Rattle.block_service.specs.Blocks.{place, in_block}
 use Rattle.block_service.specs.Service.{Call, write, Result, step}
-use Rattle.block_service.specs.declared.blocks.Place.TheVariants.{At}
+use Rattle.block_service.specs.Blocks.{At}
 use Rattle.block_service.proofs.service.Kept.{past_length_kept, protected_kept}
 use Rattle.block_service.proofs.service.Steps.{refused_changes_nothing}
 use Rattle.isolation.specs.Runs.{is_success}

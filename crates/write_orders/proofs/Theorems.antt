@@ -16,7 +16,7 @@ use Rattle.volume.specs.declared.state.State.{State}
 use Rattle.block_service.specs.Access.{count_moved}
 use Rattle.block_service.specs.Blocks.{place, in_block}
 use Rattle.block_service.specs.Service.{write, result_of, step}
-use Rattle.block_service.specs.declared.blocks.Place.TheVariants.{At}
+use Rattle.block_service.specs.Blocks.{At}
 use Rattle.block_service.proofs.Theorems as service
 use Rattle.block_service.proofs.service.Steps as steps
 use Rattle.isolation.specs.Runs.{is_success, run, Alike, NoEarlyRead}

@@ -20,7 +20,7 @@ use Rattle.block_service.specs.Access.{count_moved}
 use Rattle.block_service.specs.Blocks.{place}
 use Rattle.block_service.specs.Judged.{stored, judged_write}
 use Rattle.block_service.specs.Service.{Call, write, lent_refusals, refusals, Result, result_of, buffer_of, step}
-use Rattle.block_service.specs.declared.blocks.Place.TheVariants.{At}
+use Rattle.block_service.specs.Blocks.{At}
 use Rattle.block_service.proofs.blocks.Places.{place_found}
 use Rattle.block_service.proofs.judged.Reaches.{judged_written}
 use Rattle.block_service.proofs.service.Kept.{write_outside}

@@ -8,25 +8,12 @@ use native.Mathlib.Omega.{arith}
 use borrow.Author.Tests.{leb-true, ltb-true}
 use lib.Bits.{bit_and, bit_or, and_comm, and_mask, or_zero_l}
 use lib.Dec.{leb, ltb}
-use lib.ListN.{length, get_or, take, drop, length-drop}
-use lib.Seq.{length-take-le, get_or-take, ext_get_or}
+use lib.ListN.{length, get_or, take, drop}
+use lib.Seq.{get_or-take, ext_get_or}
 use Rattle.volume.specs.Attributes.{flag, sticky_write, erase_polarity}
 use Rattle.common.specs.Lists.{edit}
 use Rattle.block_service.specs.Access.{count_moved, written_byte, erased_byte, changed_byte, write_change, keep, store}
-use Rattle.moves.specs.Moved.{moved}
-use Rattle.moves.proofs.Moved.{moved_all, moved_same}
 use Rattle.common.proofs.Edit.{within, edit-part, edit-same, edit_keep, length-edit, get_or-edit}
-
--- a length of a part that runs from `at` to `at + n`
-pub part_length : (at n : ℕ) (v : List ℕ) → at + n ≤ length v → length (take (at + n - at) (drop at v)) ≡ n
-part_length at n v h = rw (add-sub_cancel_left at n) (length-take-le n (drop at v) (rw (length-drop at v) (omega arith)))
-
--- a read: the bytes of the stretch, moved to the front of the buffer
-pub read_back : (at n : ℕ) (v buffer after : List ℕ) → at + n ≤ length v → n ≤ length buffer → after ≡ moved (take (at + n - at) (drop at v)) buffer
-    → after ≡ take n (drop at v) ++ drop n buffer
-read_back at n v buffer after h room e =
-    let all = part_length at n v h in
-    e ∙ moved_all (take (at + n - at) (drop at v)) buffer (omega arith) ∙ rw (all, add-sub_cancel_left at n)
 
 -- the byte that a write changes at i, and those that it does not change
 stretch : (a at n : ℕ) (new : List ℕ) → n ≤ length new → (i x : ℕ)

@@ -10,8 +10,8 @@ use borrow.Author.Tests.{lt-ltb, le-ltb, le-leb, lt-leb, ltb-true, ltb-false, le
 use lib.Dec.{T, leb, ltb}
 use Rattle.volume.specs.BlockMap.{blocks, bytes}
 use Rattle.block_service.specs.Blocks.{place_from, place, start_of, length_of, holds, in_block, block_at, first_byte}
-use Rattle.block_service.specs.declared.blocks.Place.{Place}
-use Rattle.block_service.specs.declared.blocks.Place.TheVariants.{At, Missing}
+use Rattle.block_service.specs.Blocks.{Place}
+use Rattle.block_service.specs.Blocks.{At, Missing}
 
 pub first_byte_zero : (m : List ℕ) → first_byte m 0 ≡ 0
 unfolding first_byte

@@ -3,7 +3,7 @@ use Prim.Native.Nat.{ℕ, zero, suc, ◌+◌, ◌-◌, ◌*◌, ◌≤◌, ◌<�
 use mathlib.Core.Path.{◌≡◌, refl, sym, ap, ◌∙◌}
 use mathlib.Core.Bool.{Bool, true, false, cond}
 use mathlib.Core.List.{List, [], ◌∷◌}
-use native.Mathlib.Nat.{add_assoc, zero-add, mul-le-mul_right, add-mul, one-mul, sub-zero}
+use native.Mathlib.Nat.{zero-add, mul-le-mul_right, add-mul, sub-zero}
 use native.Mathlib.Omega.{arith}
 use borrow.Author.Tests.{lt-ltb, le-ltb, le-leb, lt-leb, ltb-true, ltb-false, leb-true, leb-false, eq-eqb, ne_eqb, eqb-true, eqb-false}
 use lib.Dec.{eqb, leb, ltb}
@@ -12,9 +12,9 @@ use Rattle.common.proofs.Lists.{drop_two}
 use Rattle.common.proofs.Refusals.{neither}
 use Rattle.volume.specs.BlockMap.{blocks, bytes, has_zero, max_length, max_blocks}
 use Rattle.block_service.specs.Blocks.{place_from, place, HasLength, equal_blocks, consecutive_blocks, outgrows, first_byte}
-use Rattle.block_service.specs.declared.blocks.Place.{Place}
-use Rattle.block_service.specs.declared.blocks.Place.TheVariants.{At, Missing}
-use Rattle.volume.proofs.block_map.Words.{blocks_entry, bytes_entry}
+use Rattle.block_service.specs.Blocks.{Place}
+use Rattle.block_service.specs.Blocks.{At}
+use Rattle.volume.proofs.block_map.Words.{blocks_entry}
 use Rattle.block_service.proofs.blocks.Places.{first_byte_zero, first_byte_here, first_byte_past, first_byte-le}
 
 -- the search in an entry that holds the block, and in one that does not
@@ -240,10 +240,11 @@ pub walk_first : (r l : ℕ) (rest : List ℕ) (n k : ℕ) → k ≡ min n r →
 unfolding first_byte
 walk_first r l rest n k e = let z : n - k ≡ n - r = omega arith in rw (z, e)
 
--- a search over a map's words, at entry i: its words are c and l
+-- ---- the turns of the code over a map's words
+
+-- where no entry i is left: it passes no lent bytes, the block is in none from it on, and no block is counted
 module _ (w : List ℕ) (i : ℕ) where
-  -- what holds where no entry is left
-  pub no_entry : (P : List ℕ → Type 0) → P [] → ((x : ℕ) → P (x ∷ [])) → length w ≤ 2 * i + 1 → P (drop (2 * i) w)
+  no_entry : (P : List ℕ → Type 0) → P [] → ((x : ℕ) → P (x ∷ [])) → length w ≤ 2 * i + 1 → P (drop (2 * i) w)
   no_entry P none one h = go (drop (2 * i) w) (rw (length-drop (2 * i) w) (omega arith))
     where
       go : (m : List ℕ) → length m ≤ 1 → P m
@@ -251,71 +252,72 @@ module _ (w : List ℕ) (i : ℕ) where
       go (x ∷ []) p = one x
       go (x ∷ y ∷ r) p = absurd (omega arith)
 
-  pub find_end : (s b : ℕ) → length w ≤ 2 * i + 1 → Missing ≡ place_from (drop (2 * i) w) i s b
-  unfolding place_from
-  find_end s b = no_entry (λ m. Missing ≡ place_from m i s b) refl (λ x. refl)
-
-  pub outgrows_end : (b n : ℕ) → length w ≤ 2 * i + 1 → outgrows (drop (2 * i) w) b n ≡ false
+  pub end_outgrows : (b n : ℕ) → length w ≤ 2 * i + 1 → outgrows (drop (2 * i) w) b n ≡ false
   unfolding outgrows
-  outgrows_end b n = no_entry (λ m. outgrows m b n ≡ false) refl (λ x. refl)
+  end_outgrows b n = no_entry (λ m. outgrows m b n ≡ false) refl (λ x. refl)
 
-  pub count_end : length w ≤ 2 * i + 1 → blocks (drop (2 * i) w) ≡ 0
+  pub end_there : (b : ℕ) → length w ≤ 2 * i + 1 → leb (blocks (drop (2 * i) w)) b ≡ true
   unfolding blocks
-  count_end = no_entry (λ m. blocks m ≡ 0) refl (λ x. refl)
+  end_there b h = no_entry (λ m. leb (blocks m) b ≡ true) (le-leb 0 b (omega arith)) (λ x. le-leb 0 b (omega arith)) h
 
-  pub first_end : (b : ℕ) → length w ≤ 2 * i + 1 → first_byte (drop (2 * i) w) b ≡ 0
+  pub end_first : (b : ℕ) → length w ≤ 2 * i + 1 → first_byte (drop (2 * i) w) b ≡ 0
   unfolding first_byte
-  first_end b = no_entry (λ m. first_byte m b ≡ 0) refl (λ x. refl)
+  end_first b = no_entry (λ m. first_byte m b ≡ 0) refl (λ x. refl)
 
-  pub equal_end : (len : ℕ) → length w ≤ 2 * i + 1 → equal_blocks (drop (2 * i) w) len ≡ 0
+  pub end_equal : (len : ℕ) → length w ≤ 2 * i + 1 → equal_blocks (drop (2 * i) w) len ≡ 0
   unfolding equal_blocks
-  equal_end len = no_entry (λ m. equal_blocks m len ≡ 0) refl (λ x. refl)
+  end_equal len = no_entry (λ m. equal_blocks m len ≡ 0) refl (λ x. refl)
 
-  module _ (c l : ℕ) (h : 2 * i + 1 < length w) (ec : c ≡ get_or w (2 * i) 0) (el : l ≡ get_or w (2 * i + 1) 0) where
-    pub entry_words_lem : drop (2 * i) w ≡ c ∷ l ∷ drop (2 * (i + 1)) w
-    entry_words_lem = let e : 2 * (i + 1) ≡ 2 * i + 2 = omega arith in rw (e, drop_two w (2 * i) h, ec, el)
+  -- and otherwise, with its two words in hand
+  abbrev count : ℕ
+  count = get_or w (2 * i) 0
 
-    pub find_hit : (s b : ℕ) → b < c → At i (s + b * l) l (c - b) ≡ place_from (drop (2 * i) w) i s b
-    find_hit s b p = rw entry_words_lem (sym (place_here c l (drop (2 * (i + 1)) w) i s b p))
+  abbrev size : ℕ
+  size = get_or w (2 * i + 1) 0
 
-    pub find_next : (s b : ℕ) → c ≤ b → place_from (drop (2 * (i + 1)) w) (i + 1) (s + c * l) (b - c) ≡ place_from (drop (2 * i) w) i s b
-    find_next s b p = rw entry_words_lem (sym (place_past c l (drop (2 * (i + 1)) w) i s b p))
+  abbrev behind : List ℕ
+  behind = drop (2 * (i + 1)) w
 
-    pub entry_bytes : bytes (drop (2 * i) w) ≡ c * l + bytes (drop (2 * (i + 1)) w)
-    entry_bytes = rw (ec, el) (bytes_entry w i h)
+  entry_words_lem : 2 * i + 1 < length w → drop (2 * i) w ≡ count ∷ size ∷ behind
+  entry_words_lem h = let e : 2 * (i + 1) ≡ 2 * i + 2 = omega arith in rw (e, drop_two w (2 * i) h)
 
-    -- it passes the n bytes that are lent, or it holds the block, or the search goes on with the next
-    pub outgrows_past : (b n : ℕ) → n < c * l → outgrows (drop (2 * i) w) b n ≡ true
-    unfolding outgrows
-    outgrows_past b n p = rw (entry_words_lem, lt-ltb n (c * l) p)
+  -- the entry passes the n bytes that are lent, or it holds the block, or the search goes on with the next
+  pub past_outgrows : (b n : ℕ) → 2 * i + 1 < length w → n < count * size → outgrows (drop (2 * i) w) b n ≡ true
+  unfolding outgrows
+  past_outgrows b n h p = rw (entry_words_lem h, lt-ltb n (count * size) p)
 
-    pub outgrows_hit : (b n : ℕ) → c * l ≤ n → b < c → outgrows (drop (2 * i) w) b n ≡ false
-    unfolding outgrows
-    outgrows_hit b n p q = rw (entry_words_lem, le-ltb n (c * l) p, lt-ltb b c q)
+  pub here_outgrows : (b n : ℕ) → 2 * i + 1 < length w → count * size ≤ n → b < count → outgrows (drop (2 * i) w) b n ≡ false
+  unfolding outgrows
+  here_outgrows b n h p q = rw (entry_words_lem h, le-ltb n (count * size) p, lt-ltb b count q)
 
-    pub outgrows_next : (b n : ℕ) → c * l ≤ n → c ≤ b → outgrows (drop (2 * (i + 1)) w) (b - c) (n - c * l) ≡ outgrows (drop (2 * i) w) b n
-    unfolding outgrows
-    outgrows_next b n p q = rw (entry_words_lem, le-ltb n (c * l) p, le-ltb b c q)
+  pub next_outgrows : (b n m k : ℕ) → 2 * i + 1 < length w → count * size ≤ n → count ≤ b → m ≡ n - count * size → k ≡ b - count
+      → outgrows behind k m ≡ outgrows (drop (2 * i) w) b n
+  unfolding outgrows
+  next_outgrows b n m k h p q em ek = rw (em, ek, entry_words_lem h, le-ltb n (count * size) p, le-ltb b count q)
 
-    -- so many blocks from its first on: those in it, and those after it
-    pub first_next : (b k : ℕ) → k ≡ min b c → first_byte (drop (2 * i) w) b ≡ k * l + first_byte (drop (2 * (i + 1)) w) (b - k)
-    first_next b k e = rw entry_words_lem (walk_first c l (drop (2 * (i + 1)) w) b k e)
+  pub here_there : (b : ℕ) → 2 * i + 1 < length w → b < count → leb (blocks (drop (2 * i) w)) b ≡ false
+  here_there b h q = lt-leb _ _ (omega (arith, blocks_entry w i h))
 
-    -- the entry has the length of a run of equal blocks, and the run goes on with the next; or it has another, and the run stops
-    pub equal_on : (len : ℕ) → l ≡ len → equal_blocks (drop (2 * i) w) len ≡ c + equal_blocks (drop (2 * (i + 1)) w) len
-    equal_on len e = rw entry_words_lem (equal_here c l (drop (2 * (i + 1)) w) len e)
+  pub next_there : (b k : ℕ) → 2 * i + 1 < length w → count ≤ b → k ≡ b - count → leb (blocks behind) k ≡ leb (blocks (drop (2 * i) w)) b
+  next_there b k h q ek = rw (ek, blocks_entry w i h) (sym (past_count count (blocks behind) b q))
 
-    pub equal_stop : (len : ℕ) → (l ≡ len → ⊥) → equal_blocks (drop (2 * i) w) len ≡ 0
-    equal_stop len d = rw entry_words_lem (equal_other c l (drop (2 * (i + 1)) w) len d)
+  pub here_place : (b s : ℕ) → 2 * i + 1 < length w → b < count → At i (s + b * size) size (count - b) ≡ place_from (drop (2 * i) w) i s b
+  here_place b s h q = rw (entry_words_lem h) (sym (place_here count size behind i s b q))
 
-    pub entry_blocks : blocks (drop (2 * i) w) ≡ c + blocks (drop (2 * (i + 1)) w)
-    entry_blocks = rw ec (blocks_entry w i h)
+  pub next_place : (b s t k : ℕ) → 2 * i + 1 < length w → count ≤ b → t ≡ s + count * size → k ≡ b - count
+      → place_from behind (i + 1) t k ≡ place_from (drop (2 * i) w) i s b
+  next_place b s t k h q et ek = rw (et, ek, entry_words_lem h) (sym (place_past count size behind i s b q))
 
-    pub blocks_hit : (b : ℕ) → b < c → leb (blocks (drop (2 * i) w)) b ≡ false
-    blocks_hit b p = lt-leb _ _ (omega (arith, entry_blocks))
+  -- of so many blocks from its first on, k are in it
+  pub next_first : (b k : ℕ) → 2 * i + 1 < length w → k ≡ min b count → first_byte (drop (2 * i) w) b ≡ k * size + first_byte behind (b - k)
+  next_first b k h e = rw (entry_words_lem h) (walk_first count size behind b k e)
 
-    pub blocks_next : (b : ℕ) → c ≤ b → leb (blocks (drop (2 * (i + 1)) w)) (b - c) ≡ leb (blocks (drop (2 * i) w)) b
-    blocks_next b p = sym (rw entry_blocks (past_count c (blocks (drop (2 * (i + 1)) w)) b p))
+  -- the entry has the length of a run of equal blocks, and the run goes on with the next; or it has another, and the run stops
+  pub next_equal : (len : ℕ) → 2 * i + 1 < length w → size ≡ len → equal_blocks (drop (2 * i) w) len ≡ count + equal_blocks behind len
+  next_equal len h e = rw (entry_words_lem h) (equal_here count size behind len e)
+
+  pub other_equal : (len : ℕ) → 2 * i + 1 < length w → (size ≡ len → ⊥) → equal_blocks (drop (2 * i) w) len ≡ 0
+  other_equal len h d = rw (entry_words_lem h) (equal_other count size behind len d)
 
 -- entries that do not pass the lent bytes in all do not up to any block
 pub fits : (m : List ℕ) (b n : ℕ) → bytes m ≤ n → outgrows m b n ≡ false
@@ -327,30 +329,6 @@ fits (c ∷ l ∷ rest) b n h = rw (le-ltb n (c * l) (omega arith)) (go (ltb b c
     go : (t : Bool) → outgrows rest (b - c) (n - c * l) ≡ false → cond t false (outgrows rest (b - c) (n - c * l)) ≡ false
     go true ih = refl
     go false ih = ih
-
--- a block of an entry ends where its blocks do, or before
-pub one_more : (b k c : ℕ) → b < c → b * k + k ≤ c * k
-one_more b k c h = rw (add-mul b 1 k, one-mul k) at (mul-le-mul_right {m = b + 1} {n = c} k (omega arith))
-
--- a walk from a block on: the blocks left in its entry are enough, or the walk goes on with the next entry
-pub walk_stop : (r l l' : ℕ) (rest : List ℕ) (n at : ℕ) → l ≡ l' → n ≤ r → at + n * l ≡ at + first_byte (r ∷ l' ∷ rest) n
-walk_stop r l l' rest n at e h = rw (e, first_byte_here r l' rest n h)
-
-pub walk_on : (r l l' : ℕ) (rest : List ℕ) (n at : ℕ) → l ≡ l' → r < n → at + r * l + first_byte rest (n - r) ≡ at + first_byte (r ∷ l' ∷ rest) n
-walk_on r l l' rest n at e h = rw (e, first_byte_past r l' rest n (omega arith)) (add_assoc at (r * l') _)
-
-pub walk_next : (w : List ℕ) (j r l l' n at k : ℕ) → l ≡ l' → k ≡ get_or w (2 * j) 0 → r < n → 2 * j + 1 < length w
-    → at + r * l + first_byte (k ∷ get_or w (2 * j + 1) 0 ∷ drop (2 * (j + 1)) w) (n - r) ≡ at + first_byte (r ∷ l' ∷ drop (2 * j) w) n
-walk_next w j r l l' n at k e q h b =
-    ap (λ (x : List ℕ). at + r * l + first_byte x (n - r)) (sym (entry_words_lem w j _ _ b q refl)) ∙ walk_on r l l' (drop (2 * j) w) n at e h
-
--- where blocks are left, so is an entry
-pub walk_more : (w : List ℕ) (j : ℕ) → 0 < blocks (drop (2 * j) w) → 2 * j + 1 < length w
-walk_more w j h = go (ltb (2 * j + 1) (length w)) refl
-  where
-    go : (t : Bool) → ltb (2 * j + 1) (length w) ≡ t → 2 * j + 1 < length w
-    go true e = ltb-true _ _ e
-    go false e = absurd (omega (arith, count_end w j (ltb-false _ _ e)))
 
 -- the blocks are those of the entries before one and those of the entries from it on
 blocks_split : (w : List ℕ) (i : ℕ) → blocks w ≡ blocks (take (2 * i) w) + blocks (drop (2 * i) w)
@@ -367,60 +345,15 @@ blocks_split w (suc i) = let z : 2 * suc i ≡ suc (suc (2 * i)) = omega arith i
 pub equal_within : (w : List ℕ) (i len : ℕ) → equal_blocks (drop (2 * i) w) len ≤ blocks w
 equal_within w i len = omega (arith, equal_le (drop (2 * i) w) len, blocks_split w i)
 
--- the turns of the code that searches, at an entry: it passes the lent bytes, it holds the block, or the search goes on; and no entry is left
-module _ (w : List ℕ) (i b : ℕ) where
-  pub turn_past : (n : ℕ) → 2 * i + 1 < length w → n < get_or w (2 * i) 0 * get_or w (2 * i + 1) 0 → outgrows (drop (2 * i) w) b n ≡ true
-  turn_past n h p = outgrows_past w i _ _ h refl refl b n p
+pub no_blocks : (m : List ℕ) (b : ℕ) → b ≡ 0 → first_byte m b ≡ 0
+no_blocks m b e = rw (e, first_byte_zero m)
 
-  pub turn_in : (n : ℕ) → 2 * i + 1 < length w → get_or w (2 * i) 0 * get_or w (2 * i + 1) 0 ≤ n → b < get_or w (2 * i) 0 → outgrows (drop (2 * i) w) b n ≡ false
-  turn_in n h p q = outgrows_hit w i _ _ h refl refl b n p q
+-- what the code that searches, the code that looks for a run's end, and the code that counts equal blocks are proved by
+pub ruleset search_turns = (end_outgrows, end_there, past_outgrows, here_outgrows, next_outgrows, here_there, next_there, here_place, next_place)
 
-  pub turn_on : (n m k : ℕ) → 2 * i + 1 < length w → get_or w (2 * i) 0 * get_or w (2 * i + 1) 0 ≤ n → get_or w (2 * i) 0 ≤ b
-      → m ≡ n - get_or w (2 * i) 0 * get_or w (2 * i + 1) 0 → k ≡ b - get_or w (2 * i) 0 → outgrows (drop (2 * (i + 1)) w) k m ≡ outgrows (drop (2 * i) w) b n
-  turn_on n m k h p q em ek = rw (em, ek) (outgrows_next w i _ _ h refl refl b n p q)
+pub ruleset end_turns = (walk_first, next_first, end_first, no_blocks)
 
-  pub turn_out : (n : ℕ) → length w ≤ 2 * i + 1 → outgrows (drop (2 * i) w) b n ≡ false
-  turn_out n h = outgrows_end w i b n h
-
-  pub turn_there : 2 * i + 1 < length w → b < get_or w (2 * i) 0 → leb (blocks (drop (2 * i) w)) b ≡ false
-  turn_there h q = blocks_hit w i _ _ h refl refl b q
-
-  pub turn_further : (k : ℕ) → 2 * i + 1 < length w → get_or w (2 * i) 0 ≤ b → k ≡ b - get_or w (2 * i) 0 → leb (blocks (drop (2 * (i + 1)) w)) k ≡ leb (blocks (drop (2 * i) w)) b
-  turn_further k h q ek = rw ek (blocks_next w i _ _ h refl refl b q)
-
-  pub turn_nowhere : length w ≤ 2 * i + 1 → leb (blocks (drop (2 * i) w)) b ≡ true
-  turn_nowhere h = le-leb _ _ (omega (arith, count_end w i h))
-
-  pub turn_hit : (s : ℕ) → 2 * i + 1 < length w → b < get_or w (2 * i) 0
-      → At i (s + b * get_or w (2 * i + 1) 0) (get_or w (2 * i + 1) 0) (get_or w (2 * i) 0 - b) ≡ place_from (drop (2 * i) w) i s b
-  turn_hit s h q = find_hit w i _ _ h refl refl s b q
-
-  pub turn_next : (s t k : ℕ) → 2 * i + 1 < length w → get_or w (2 * i) 0 ≤ b → t ≡ s + get_or w (2 * i) 0 * get_or w (2 * i + 1) 0 → k ≡ b - get_or w (2 * i) 0
-      → place_from (drop (2 * (i + 1)) w) (i + 1) t k ≡ place_from (drop (2 * i) w) i s b
-  turn_next s t k h q et ek = rw (et, ek) (find_next w i _ _ h refl refl s b q)
-
-pub ruleset turns = (turn_past, turn_in, turn_on, turn_out, turn_there, turn_further, turn_nowhere, turn_hit, turn_next)
-
--- the turns of the code that looks for a run's end
-pub end_next : (w : List ℕ) (i b k : ℕ) → 2 * i + 1 < length w → k ≡ min b (get_or w (2 * i) 0)
-    → first_byte (drop (2 * i) w) b ≡ k * get_or w (2 * i + 1) 0 + first_byte (drop (2 * (i + 1)) w) (b - k)
-end_next w i b k h e = first_next w i _ _ h refl refl b k e
-
-pub end_here : (m : List ℕ) (b : ℕ) → b ≡ 0 → first_byte m b ≡ 0
-end_here m b e = rw (e, first_byte_zero m)
-
-pub ruleset ends = (walk_first, end_next, end_here, first_end)
-
--- the turns of the code that counts them: an entry of the length, one of another, and no entry
-pub equal_turn : (w : List ℕ) (i len : ℕ) → 2 * i + 1 < length w → get_or w (2 * i + 1) 0 ≡ len
-    → equal_blocks (drop (2 * i) w) len ≡ get_or w (2 * i) 0 + equal_blocks (drop (2 * (i + 1)) w) len
-equal_turn w i len h e = equal_on w i _ _ h refl refl len e
-
-pub equal_stops : (w : List ℕ) (i len : ℕ) → 2 * i + 1 < length w → (get_or w (2 * i + 1) 0 ≡ len → ⊥) → equal_blocks (drop (2 * i) w) len ≡ 0
-equal_stops w i len h d = equal_stop w i _ _ h refl refl len d
-
-pub equal_done : (w : List ℕ) (i len : ℕ) → length w ≤ 2 * i + 1 → equal_blocks (drop (2 * i) w) len ≡ 0
-equal_done w i len h = equal_end w i len h
+pub ruleset equal_turns = (next_equal, other_equal, end_equal, equal_within)
 
 -- the same from the map's start: what a walk from a block that was found needs, and where it ends
 module _ (m : List ℕ) (b e s l r : ℕ) (h : place m b ≡ At e s l r) where
@@ -435,14 +368,12 @@ module _ (m : List ℕ) (b e s l r : ℕ) (h : place m b ≡ At e s l r) where
   pub entry_left : b + r ≡ blocks (take (2 * (e + 1)) m)
   entry_left = omega (arith, found_blocks, blocks_split m (e + 1))
 
-  pub found_walk : (n : ℕ) → s + first_byte (r ∷ get_or m (2 * e + 1) 0 ∷ drop (2 * (e + 1)) m) n ≡ first_byte m (b + n)
+  pub found_walk : (n : ℕ) → s + first_byte (r ∷ l ∷ drop (2 * (e + 1)) m) n ≡ first_byte m (b + n)
   unfolding place
-  found_walk n = rw found_entry.1 (sym (rw (sub-zero (e + 1), zero-add (first_byte m (b + n))) at (walk_end m 0 0 b e s l r n h)))
+  found_walk n = sym (rw (sub-zero (e + 1), zero-add (first_byte m (b + n))) at (walk_end m 0 0 b e s l r n h))
 
-  pub walk_asks : (n : ℕ) → b + n ≤ blocks m → bytes m ≤ max_length
-      → (2 * e + 1 < length m)
-      × ((n ≤ r + blocks (drop (2 * (e + 1)) m)) × (s + first_byte (r ∷ get_or m (2 * e + 1) 0 ∷ drop (2 * (e + 1)) m) n ≤ max_length))
-  walk_asks n p q = (found_entry.0, (omega (arith, found_blocks), omega (arith, found_walk n, first_byte-le m (b + n))))
+  pub walk_asks : (n : ℕ) → bytes m ≤ max_length → s + first_byte (r ∷ l ∷ drop (2 * (e + 1)) m) n ≤ max_length
+  walk_asks n q = omega (arith, found_walk n, first_byte-le m (b + n))
 
   pub found_number : r + equal_blocks (drop (2 * (e + 1)) m) l ≡ consecutive_blocks m b
   unfolding place
@@ -466,8 +397,8 @@ module _ (m : List ℕ) (b e s l r : ℕ) (h : place m b ≡ At e s l r) where
   number_in_entry d = omega (arith, found_number, go (ltb (2 * (e + 1) + 1) (length m)) refl)
     where
       go : (t : Bool) → ltb (2 * (e + 1) + 1) (length m) ≡ t → equal_blocks (drop (2 * (e + 1)) m) l ≡ 0
-      go true q = equal_stop m (e + 1) _ _ (ltb-true _ _ q) refl refl l (λ x. d e (ltb-true _ _ q) (found_entry.1 ∙ sym x))
-      go false q = equal_end m (e + 1) l (ltb-false _ _ q)
+      go true q = other_equal m (e + 1) l (ltb-true _ _ q) (λ x. d e (ltb-true _ _ q) (found_entry.1 ∙ sym x))
+      go false q = end_equal m (e + 1) l (ltb-false _ _ q)
 
 -- a later block starts later
 pub first_byte_rises : (m : List ℕ) (b n : ℕ) → first_byte m b ≤ first_byte m (b + n)

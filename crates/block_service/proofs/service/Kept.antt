@@ -23,8 +23,8 @@ use Rattle.block_service.specs.Erase.{names}
 use Rattle.block_service.specs.Service.{Call, get_attributes, set_attributes, get_physical_address, get_block_size, read, write, erase_blocks, protect_blocks, accept_erase, carry_erase, refusals, effect, Result}
 use Rattle.block_service.specs.Service.{perform, buffer_of, step, decide, Effect, reply, set_to, copy_out, change, with_attributes, with_protected}
 use Rattle.settings.specs.Settings.{status_bits, changes_fixed, raises, clears, breaks_lock, changes_locked, setting_refusals}
-use Rattle.block_service.specs.declared.blocks.Place.{Place}
-use Rattle.block_service.specs.declared.blocks.Place.TheVariants.{At, Missing}
+use Rattle.block_service.specs.Blocks.{Place}
+use Rattle.block_service.specs.Blocks.{At, Missing}
 use Rattle.block_service.proofs.blocks.Places.{found_start, found_end, in_block_of_bounds, place_found, place_lost, past_every_block, in_one_block}
 use Rattle.block_service.proofs.erase.Lists.{names-reaches}
 use Rattle.block_service.proofs.service.Erasing.{erase_other}

@@ -2,17 +2,15 @@
 use Prim.Native.Nat.{ℕ, ◌+◌, ◌-◌, ◌≤◌, ◌<◌}
 use mathlib.Core.Bool.{Bool, true, false, cond, ◌&&◌}
 use mathlib.Core.List.{List, [], ◌++◌}
-use mathlib.Core.Option.{none}
 use mathlib.Core.Path.{◌≡◌, refl, sym, ap, ◌∙◌}
 use native.Mathlib.Nat.{zero-add}
 use native.Mathlib.Omega.{arith}
-use borrow.Author.Tests.{lt-ltb, le-leb, lt-leb, ltb-true, ltb-false, leb-true, leb-false}
+use borrow.Author.Tests.{lt-ltb, le-leb, lt-leb, ltb-true, ltb-false, leb-true}
 use lib.Dec.{T, leb, ltb}
 use lib.ListN.{length, get_or, take, drop, get_or-append, length-drop}
 use lib.Seq.{get_or-take, get_or-drop, length-take-le, get_or-append-add}
 use Rattle.common.specs.Answers.{refused}
 use Rattle.common.specs.Lists.{edit}
-use Rattle.common.specs.Refusals.{first_refusal}
 use Rattle.common.proofs.Edit.{get_or-edit, get_d_kept}
 use Rattle.common.proofs.Refusals.{row_passes, no_row}
 use Rattle.volume.specs.Attributes.{flag, read_status, write_status}
@@ -23,7 +21,7 @@ use Rattle.volume.proofs.state.Lawful.{lawful}
 use Rattle.block_service.specs.Access.{count_moved, written_byte, keep, store, write_change, changed_byte}
 use Rattle.block_service.specs.Blocks.{place, start_of, length_of, in_block}
 use Rattle.block_service.specs.Service.{move_answer, read, write, refusals, effect, Result, result_of, perform, buffer_of, step}
-use Rattle.block_service.specs.declared.blocks.Place.TheVariants.{At}
+use Rattle.block_service.specs.Blocks.{At}
 use Rattle.block_service.proofs.blocks.Places.{in_block_of_bounds, found_start, found_end, found_within, place_found, place_there}
 use Rattle.block_service.proofs.service.Steps.{allowed_step, allowed_answers, lent_last, lent_passes, passed, passed_read, passed_write, read_step, write_step}
 

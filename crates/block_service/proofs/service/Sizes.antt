@@ -18,7 +18,7 @@ use Rattle.volume.proofs.state.Lawful.{lawful}
 use Rattle.block_service.specs.Blocks.{place, HasLength, start_of, length_of, in_block, block_at, consecutive_blocks}
 use Rattle.block_service.specs.Service.{get_block_size, refusals, effect, Result}
 use Rattle.block_service.specs.Service.{result_of, perform, step}
-use Rattle.block_service.specs.declared.blocks.Place.TheVariants.{At}
+use Rattle.block_service.specs.Blocks.{At}
 use Rattle.block_service.proofs.blocks.Places.{in_some_block, place_there, in_one_block, next_block}
 use Rattle.block_service.proofs.blocks.Runs.{as_long, number_alike, number_ends, number_in_entry}
 use Rattle.block_service.proofs.service.Steps.{allowed_step, passed_success, size_step}

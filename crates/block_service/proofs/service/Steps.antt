@@ -24,7 +24,7 @@ use Rattle.block_service.specs.Erase.{good_list, names, reaches, erase_change}
 use Rattle.block_service.specs.Service.{Call, get_attributes, set_attributes, get_physical_address, get_block_size, read, write, erase_blocks, protect_blocks, accept_erase, carry_erase, lent_refusals, refusals}
 use Rattle.block_service.specs.Service.{reply, effect, move_answer, carry_answer, Result, result_of, perform, buffer_of, step, decide}
 use Rattle.block_service.specs.Order.{job_given}
-use Rattle.block_service.specs.declared.blocks.Place.TheVariants.{At}
+use Rattle.block_service.specs.Blocks.{At}
 use Rattle.block_service.proofs.blocks.Runs.{fits}
 use Rattle.block_service.proofs.erase.Lists.{names-reaches}
 
@@ -111,16 +111,7 @@ module _ (st : State) (n status : ℕ) (t : Bool) (rest : List Row) (e : first_r
   pub lent_last : t ≡ false → first_refusal (lent_refusals st n status ++ (row t 2 ∷ rest)) ≡ first_refusal rest
   lent_last h = lent_then st n status _ e ∙ row_passes _ _ _ _ h refl
 
--- what the code's test of 111 says: the call is refused with it, or the state is lawful
-pub tested_unlawful : (st : State) (v : List ℕ) (c : Call) (m : ℕ) → some m ≡ first_refusal (row (unlawful st) 111 ∷ [])
-    → result_of (refused m) st v (buffer_of c) ≡ step st v c
-unfolding first_refusal
-tested_unlawful st v c m = go (unlawful st) refl
-  where
-    go : (t : Bool) → unlawful st ≡ t → some m ≡ cond t (some 111) none → result_of (refused m) st v (buffer_of c) ≡ step st v c
-    go true u e = let q : m ≡ 111 = cc in rw q (unlawful-step st v c u)
-    go false u e = absurd (let z : ◌≡◌ {A = ℕ} 0 1 = cc in omega arith)
-
+-- where the code's test of 111 passes, the state is lawful
 pub tested_lawful : (st : State) → none ≡ first_refusal (row (unlawful st) 111 ∷ []) → unlawful st ≡ false
 tested_lawful st e = (row-passed (row (unlawful st) 111) [] (sym e)).0
 

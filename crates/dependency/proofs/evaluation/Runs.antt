@@ -1,11 +1,11 @@
 -- One turn of the evaluation: the bytes that are left pass the test at the kinds of the stack, and say what the whole says.
-use Prim.Native.Nat.{ℕ, ◌+◌, ◌-◌, ◌≤◌, ◌<◌}
+use Prim.Native.Nat.{ℕ, ◌-◌, ◌≤◌, ◌<◌}
 use mathlib.Core.Path.{◌≡◌, refl, sym, ap, ap₂, ◌∙◌}
 use mathlib.Core.Bool.{Bool, true, false, not}
 use mathlib.Core.List.{List, [], ◌∷◌}
 use mathlib.Core.Option.{Option, none, some, some-ne-none}
 use native.Mathlib.Omega.{arith}
-use lib.Dec.{eqb, lit≤}
+use lib.Dec.{eqb}
 use lib.ListN.{length, take, drop, length-drop, length-append}
 use borrow.Author.Tests.{lt-ltb, le-ltb}
 use Rattle.std.specs.Prelude as std
@@ -18,9 +18,9 @@ use Rattle.common.specs.Refusals.{first_refusal}
 use Rattle.dependency.specs.Opcodes.{Kind, truth, Installed, OpcodeRow, known, end_code, opcodes, row_among, row_of, code_of, operand_of, read_opcode}
 use Rattle.dependency.specs.Expression.{Reading, ended, next, reading}
 use Rattle.dependency.specs.Installed.{installed_in}
-use Rattle.dependency.specs.Validation.{stack_limit, result_kinds, kinds_after, stack_refusals, is_one_truth, fault_from, validity, validated_answer, validate_of}
+use Rattle.dependency.specs.Validation.{stack_limit, result_kinds, kinds_after, stack_refusals, is_one_truth, fault_from, validity, validate_of}
 use Rattle.dependency.specs.Evaluation.{Cell, value_on, step, run, is_missing, lacks, truth_number, outcome, evaluate_of, evaluated_answer}
-use Rattle.dependency.specs.Stack.{found_version, number_cell, cells_of, Given, Gives, Fits, Stepped}
+use Rattle.dependency.specs.Stack.{found_version, number_cell, cells_of, Given, Fits, Stepped}
 use Rattle.dependency.specs.declared.opcodes.Opcode.{Opcode}
 use Rattle.dependency.specs.declared.opcodes.Opcode.TheVariants as O
 use Rattle.dependency.proofs.Expression.{reads_fault, reads_ended, reads_next}
@@ -33,18 +33,18 @@ use Rattle.dependency.proofs.validation.Turns.{tail_is}
 -- ---- the version that an opcode gives
 
 pub given_guid : (o : Opcode) (r : std.Option ℕ) (installed : Installed) (operand : List ℕ) → o ≡ O.PushGuid → found_version r ≡ installed operand
-    → Gives r (code_of o) installed operand
-unfolding Gives opcodes row_among row_of
+    → Given r (code_of o) installed operand
+unfolding Given opcodes row_among row_of
 given_guid o (Some v) installed operand e q =
     rw e (record { found = λ z. ap known q; number = λ z. absurd (omega arith); there = ap (is_missing (row_of 0).operand) (sym q) })
 given_guid o None installed operand e q = rw e (ap (is_missing (row_of 0).operand) (sym q))
 
-pub given_number : (o : Opcode) (x : ℕ) (installed : Installed) (operand : List ℕ) → o ≡ O.PushVersion → x ≡ le 4 operand 0 → Gives (Some x) (code_of o) installed operand
-unfolding Gives opcodes row_among row_of
+pub given_number : (o : Opcode) (x : ℕ) (installed : Installed) (operand : List ℕ) → o ≡ O.PushVersion → x ≡ le 4 operand 0 → Given (Some x) (code_of o) installed operand
+unfolding Given opcodes row_among row_of
 given_number o x installed operand e q = rw e (record { found = λ z. absurd (omega arith); number = λ z. q; there = refl })
 
-pub given_none : (o : Opcode) (installed : Installed) (operand : List ℕ) → (o ≡ O.PushGuid → ⊥) → (o ≡ O.PushVersion → ⊥) → Gives (Some 0) (code_of o) installed operand
-unfolding Gives opcodes
+pub given_none : (o : Opcode) (installed : Installed) (operand : List ℕ) → (o ≡ O.PushGuid → ⊥) → (o ≡ O.PushVersion → ⊥) → Given (Some 0) (code_of o) installed operand
+unfolding Given opcodes
 given_none o installed operand a b =
     let late = code_late o a b in
     record {
@@ -130,16 +130,16 @@ module _ (installed : Installed) (s rest stack : List ℕ) (g : Running installe
       operand_is : take (a - 1) (drop 1 rest) ≡ operand_of rest
       operand_is = sym (operand_between rest c a (sym is))
 
-      pub run_missing : Gives None c installed (take (a - 1) (drop 1 rest)) → refused 14 ≡ outcome installed (reading s) []
-      unfolding Gives
+      pub run_missing : Given None c installed (take (a - 1) (drop 1 rest)) → refused 14 ≡ outcome installed (reading s) []
+      unfolding Given
       run_missing m =
           sym (at_missing installed (row_of c) (operand_of rest) _ _ (rw (← operand_is) m))
           ∙ ap (λ (x : Reading). outcome installed x (cells_of g.kinds stack)) (sym reads)
           ∙ g.same
 
-      pub run_next : (v : ℕ) (after : List ℕ) → Gives (Some v) c installed (take (a - 1) (drop 1 rest)) → Stepped c v stack after
+      pub run_next : (v : ℕ) (after : List ℕ) → Given (Some v) c installed (take (a - 1) (drop 1 rest)) → Stepped c v stack after
           → Running installed s (take (length rest - a) (drop a rest)) after
-      unfolding Gives Stepped
+      unfolding Given Stepped
       run_next v after given stepped =
           let p = pass in
           let held = stepped g.kinds g.deep p.asked installed (take (a - 1) (drop 1 rest)) given in

@@ -1,6 +1,6 @@
 -- The stack of values: the array as a list of numbers, and what each opcode makes of them.
 use Prim.Native.Nat.{ℕ, zero, suc, ◌+◌, ◌-◌, ◌≤◌, ◌<◌}
-use mathlib.Core.Path.{◌≡◌, refl, sym, ap, ap₂, ◌∙◌}
+use mathlib.Core.Path.{◌≡◌, refl, sym, ap}
 use mathlib.Core.Bool.{Bool, true, false, cond, not, true≢false}
 use mathlib.Core.List.{List, [], ◌∷◌}
 use native.Mathlib.Nat.{ne_of_lt}
@@ -11,7 +11,7 @@ use lib.ListN.{length, get_or, drop, set}
 use lib.Seq.{get_or-set_same, get_or-set_other}
 use Rattle.dependency.specs.Opcodes.{Kind, version, truth, Value}
 use Rattle.dependency.specs.Validation.{same_kind, on_top}
-use Rattle.dependency.specs.Evaluation.{Cell, Version, Truth, value_on}
+use Rattle.dependency.specs.Evaluation.{Cell, Truth, value_on}
 use Rattle.dependency.specs.Stack.{number_cell, stack_of, cells_of}
 use Rattle.dependency.proofs.validation.Passing.{both, same_kind_lem}
 

@@ -3,14 +3,13 @@ use Prim.Native.Nat.{ℕ, zero, suc, ◌+◌, ◌-◌, ◌≤◌, ◌<◌}
 use mathlib.Core.Path.{◌≡◌, refl, sym, ap, ◌∙◌}
 use mathlib.Core.Bool.{Bool, true, false, not, true≢false}
 use mathlib.Core.List.{List, [], ◌∷◌}
-use mathlib.Core.Option.{some}
 use native.Mathlib.Nat.{zero-add}
 use native.Mathlib.Omega.{arith}
-use borrow.Author.Tests.{ltb-true, ltb-false, eq-eqb, ne_eqb, eqb-true, eqb-false}
+use borrow.Author.Tests.{ltb-true, ltb-false, eq-eqb, ne_eqb}
 use mathlib.Core.Logic.{◌⊎◌, inl, inr}
-use lib.Dec.{eqb, ltb, lit≤, lit<}
-use lib.ListN.{length, get_or, take, drop}
-use lib.Seq.{get_or-drop, get_or-take}
+use lib.Dec.{ltb, lit≤, lit<}
+use lib.ListN.{length, get_or, drop}
+use lib.Seq.{get_or-drop}
 use Rattle.dependency.specs.Opcodes.{bare, OpcodeRow, opcodes, end_code, end_row, listed, row_among, is_opcode, row_of, code_of}
 use Rattle.dependency.specs.declared.opcodes.Opcode.{Opcode}
 use Rattle.dependency.specs.declared.opcodes.Opcode.TheVariants as O

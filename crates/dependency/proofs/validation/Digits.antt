@@ -5,7 +5,7 @@ use mathlib.Core.Bool.{Bool, true, false, not, ◌&&◌, and-true}
 use mathlib.Core.List.{List, [], ◌∷◌}
 use mathlib.Core.Option.{Option, none, some}
 use native.Mathlib.Numerals.{add-one}
-use native.Mathlib.Nat.{pow-suc, pow-le-pow_right}
+use native.Mathlib.Nat.{pow-suc}
 use native.Mathlib.Omega.{arith}
 use borrow.Author.Tests.{lt-ltb, le-ltb, eqb-true, eqb-false, eq-eqb, ne_eqb}
 use lib.Dec.{eqb, lit<}
@@ -22,7 +22,7 @@ use Rattle.dependency.specs.contracts.validation.Kind.{the_type}
 use Rattle.dependency.specs.declared.validation.Kind.{Kind as CodeKind}
 use Rattle.dependency.specs.declared.validation.Kind.TheVariants as K
 use Rattle.dependency.specs.Stack.{ended_of, value_kind, digit_kind, kinds_of, Follows}
-use Rattle.dependency.proofs.validation.Passing.{passing, top_on}
+use Rattle.dependency.proofs.validation.Passing.{passing}
 
 -- ---- the rows of the test at one opcode
 
@@ -151,7 +151,7 @@ module _ (n a d b : ℕ) (few : n ≤ 2) (digits : a < 2 ^ n) where
           let f = kinds-length n a in
           let l = after-length (value_kind k) in (
             passing (kinds_of n a) (some (value_kind k)) (kinds_of d b)
-            (record { enough = omega arith; within = omega arith; asked = top_digits n a d b few digits h ∙ eq-eqb a (b % 2 ^ n) (sym same) }),
+                (record { enough = omega arith; within = omega arith; asked = top_digits n a d b few digits h ∙ eq-eqb a (b % 2 ^ n) (sym same) }),
             rw (← digit_value k, f, below_digits n d b few h) (kinds_push (d - n) (b / 2 ^ n) (tag_of the_type k) (digit_small k)),
           )
 

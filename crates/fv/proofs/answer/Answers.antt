@@ -11,24 +11,14 @@ use Rattle.common.specs.Answers.{Answer, number_of, values_of}
 use Rattle.common.specs.Refusals.{Row, row, first_refusal}
 use Rattle.common.proofs.Refusals.{row_applies, row_passes, no_row}
 use Rattle.numbers.specs.LittleEndian.{le_bytes}
-use Rattle.fv.specs.Answer.{answer_bytes, answer_stored, Gives, outcome_stored, two_stored, GivesList, last_count}
+use Rattle.fv.specs.Answer.{answer_bytes, answer_stored, two_stored}
 use Rattle.fv.specs.Called.{called, answer_call}
-use Rattle.fv.specs.declared.answer.Outcome.{Outcome}
 
 -- two numbers in 16 bytes, copied to the front of the room
 pub two_stored_lem : (x y : ℕ) (r1 r2 room front : List ℕ) → r1 ≡ sets (replicate 16 0) 0 (le_bytes 8 x) → r2 ≡ sets r1 8 (le_bytes 8 y)
     → front ≡ r2 → front ++ drop answer_bytes room ≡ two_stored x y room
 unfolding le_bytes
 two_stored_lem x y r1 r2 room front e1 e2 f = rw (f, e2, e1)
-
--- what an outcome gives is what its answer says
-pub given : (o : Outcome) (a : Answer) (number : ℕ) (room after : List ℕ) → Gives o a → (number ≡ o.number) × (after ≡ outcome_stored o room)
-    → (number ≡ number_of a) × (after ≡ answer_stored (values_of a) room)
-given o a number room after g e = (e.0 ∙ g.0, e.1 ∙ g.1 room)
-
-pub given_list : (o : Outcome) (count : ℕ) (last : Answer) (number : ℕ) (room after : List ℕ) → GivesList o count last → (number ≡ o.number) × (after ≡ outcome_stored o room)
-    → (number ≡ number_of last) × (after ≡ two_stored count (last_count last) room)
-given_list o count last number room after g e = (e.0 ∙ g.0, e.1 ∙ g.1 room)
 
 -- too few bytes lent: 5; enough: the rows after it
 pub few : (n k : ℕ) (rest : List Row) → n < k → first_refusal (row (ltb n k) 5 ∷ rest) ≡ some 5
@@ -43,8 +33,3 @@ module _ (inner : Answer) (answer : List ℕ) where
   pub answer_few : length answer < answer_bytes → called 5 (answer ∷ []) ≡ answer_call inner answer
   unfolding answer_call
   answer_few h = rw (few (length answer) answer_bytes [] h)
-
-  pub answer_done : answer_bytes ≤ length answer → (a : Answer) (number : ℕ) (after : List ℕ) → a ≡ inner
-      → (number ≡ number_of a) × (after ≡ answer_stored (values_of a) answer) → called number (after ∷ []) ≡ answer_call inner answer
-  unfolding answer_call
-  answer_done room a number after is e = rw (enough (length answer) answer_bytes [] none room no_row, ← is, e.0, e.1)

@@ -26,11 +26,6 @@ module _ (code : ℕ) (operand room answer : List ℕ) where
   unfolding write_opcode_call
   write_few h = rw (few (length answer) answer_bytes [] h)
 
-  pub write_done : answer_bytes ≤ length answer → (a : Answer) (number : ℕ) (room' after : List ℕ) → wrote a room' ≡ write_opcode code operand room
-      → (number ≡ number_of a) × (after ≡ answer_stored (values_of a) answer) → called number (room' ∷ after ∷ []) ≡ write_opcode_call code operand room answer
-  unfolding write_opcode_call
-  write_done long a number room' after is e = rw (enough (length answer) answer_bytes [] none long no_row, ← is, e.0, e.1)
-
 -- ---- the evaluation
 
 module _ (expression guids versions : List ℕ) (used : ℕ) (answer : List ℕ) where

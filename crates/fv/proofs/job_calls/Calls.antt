@@ -13,10 +13,8 @@ use Rattle.numbers.specs.LittleEndian.{le_bytes}
 use Rattle.numbers.proofs.LittleEndian.{le-le_bytes, length-le_bytes}
 use Rattle.volume.specs.declared.state.State.{State}
 use Rattle.block_service.specs.Erase.{list_words}
-use Rattle.block_service.specs.Service.{Result, buffer_of, result_of, step, erase_blocks, accept_erase, carry_erase, accepted_answer, progress_answer}
+use Rattle.block_service.specs.Service.{Result, buffer_of, result_of, step, erase_blocks, accept_erase, carry_erase}
 use Rattle.block_service.proofs.Theorems.{accept_as_erase, order_within, refused_changes_nothing, two_operations}
-use Rattle.block_service.specs.declared.service.Accepted as Accepted
-use Rattle.block_service.specs.declared.service.Progress as Progress
 use Rattle.fv.specs.Called.{called}
 use Rattle.fv.specs.JobCalls.{job_bytes, job_in, job_stored, accept_call, carry_call}
 use Rattle.fv.specs.Packed.{unpacked, state_bytes}
@@ -41,17 +39,6 @@ module _ (state volume list job : List ℕ) where
     unfolding accept_call
     accept_few_job h = rw (enough (length state) state_bytes _ (some 5) long (few (length job) job_bytes [] h))
 
-    module _ (room : job_bytes ≤ length job) (accepted : Accepted.Accepted) (st : State)
-        (is : result_of (accepted_answer accepted) st volume [] ≡ step (unpacked state) volume (accept_erase (list_words list))) where
-      pub accept_done : (x : ℕ) (after : List ℕ) → accepted ≡ Accepted.TheVariants.Job x → after ≡ le_bytes job_bytes x ++ drop job_bytes job
-          → called 0 (after ∷ []) ≡ accept_call state volume list job
-      unfolding accept_call accepted_answer number_of values_of job_stored
-      accept_done x after e f = rw (enough (length state) state_bytes _ none long (enough (length job) job_bytes [] none room no_row), ← is, e, f)
-
-      pub accept_refused : (n : ℕ) → accepted ≡ Accepted.TheVariants.Refused n → called n (job ∷ []) ≡ accept_call state volume list job
-      unfolding accept_call accepted_answer number_of values_of job_stored
-      accept_refused n e = rw (enough (length state) state_bytes _ none long (enough (length job) job_bytes [] none room no_row), ← is, e)
-
 -- ---- carrying on
 
 module _ (state volume list job : List ℕ) (stores : ℕ) where
@@ -63,21 +50,6 @@ module _ (state volume list job : List ℕ) (stores : ℕ) where
     pub carry_few_job : length job < job_bytes → called 5 (volume ∷ job ∷ []) ≡ carry_call state volume list job stores
     unfolding carry_call
     carry_few_job h = rw (enough (length state) state_bytes _ (some 5) long (few (length job) job_bytes [] h))
-
-    module _ (room : job_bytes ≤ length job) (last : ℕ) (read : last ≡ job_in job) (progress : Progress.Progress) (st : State) (volume' : List ℕ)
-        (is : result_of (progress_answer progress) st volume' [] ≡ step (unpacked state) volume (carry_erase (list_words list) last stores)) where
-      pub carry_finished : progress ≡ Progress.TheVariants.Finished → called 0 (volume' ∷ job ∷ []) ≡ carry_call state volume list job stores
-      unfolding carry_call progress_answer number_of values_of job_stored
-      carry_finished e = rw (enough (length state) state_bytes _ none long (enough (length job) job_bytes [] none room no_row), ← read, ← is, e)
-
-      pub carry_left : (x : ℕ) (after : List ℕ) → progress ≡ Progress.TheVariants.Job x → after ≡ le_bytes job_bytes x ++ drop job_bytes job
-          → called 4 (volume' ∷ after ∷ []) ≡ carry_call state volume list job stores
-      unfolding carry_call progress_answer number_of values_of job_stored
-      carry_left x after e f = rw (enough (length state) state_bytes _ none long (enough (length job) job_bytes [] none room no_row), ← read, ← is, e, f)
-
-      pub carry_refused : (n : ℕ) → progress ≡ Progress.TheVariants.Refused n → called n (volume' ∷ job ∷ []) ≡ carry_call state volume list job stores
-      unfolding carry_call progress_answer number_of values_of job_stored
-      carry_refused n e = rw (enough (length state) state_bytes _ none long (enough (length job) job_bytes [] none room no_row), ← read, ← is, e)
 
 -- ---- both, one after the other
 

@@ -31,14 +31,6 @@ module _ (state volume orders source answer : List ℕ) where
     unfolding write_list_call
     list_few_answer h = rw (enough (length state) state_bytes _ (some 5) long (few (length answer) answer_bytes [] h))
 
-    pub list_done : answer_bytes ≤ length answer
-        → (w : Written) (number : ℕ) (volume' answer' : List ℕ) → written_of w volume' ≡ write_orders (unpacked state) source volume (orders_in orders)
-        → (number ≡ number_of (moved_answer w.last)) × (answer' ≡ two_stored w.count (last_count (moved_answer w.last)) answer)
-        → called number (volume' ∷ answer' ∷ []) ≡ write_list_call state volume orders source answer
-    unfolding write_list_call written_of
-    list_done room w number volume' answer' is e =
-        rw (enough (length state) state_bytes _ none long (enough (length answer) answer_bytes [] none room no_row), ← is, e.0, e.1)
-
     -- what comes before the first order's turn, and 111 there
     module _ (room : answer_bytes ≤ length answer) where
       inner : (b : Batch) → write_orders (unpacked state) source volume (orders_in orders) ≡ b

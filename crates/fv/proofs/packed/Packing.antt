@@ -24,18 +24,18 @@ length-packed st g m = simp (length-append, length-le_bytes, length-words_bytes,
 
 -- the stores in a row
 pub pack_stored : (st : State) (r : List ℕ) → length st.guid ≡ 16
-    → (r1 r2 r3 r4 r5 : List ℕ) → r1 ≡ sets r 0 st.guid → r2 ≡ sets (sets r1 16 (le_bytes 8 st.length)) 24 (le_bytes 8 st.base)
+    → (r1 r0 r2 r3 r4 r5 : List ℕ) → r1 ≡ sets r 0 st.guid → r0 ≡ sets r1 16 (le_bytes 8 st.length) → r2 ≡ sets r0 24 (le_bytes 8 st.base)
     → r3 ≡ sets (sets r2 32 (le_bytes 4 st.attributes)) 36 (le_bytes 4 st.edition)
     → r4 ≡ sets (sets r3 40 (le_bytes 4 st.protected)) 44 (le_bytes 4 st.entries)
     → r5 ≡ sets r4 48 (words_bytes st.map)
     → r5 ≡ sets r 0 (packed st)
 unfolding packed le_bytes
-pack_stored st r g r1 r2 r3 r4 r5 e1 e2 e3 e4 e5 =
+pack_stored st r g r1 r0 r2 r3 r4 r5 e1 e0 e2 e3 e4 e5 =
     let rest : List ℕ =
     le_bytes 8 st.length
     ++ (le_bytes 8 st.base
     ++ (le_bytes 4 st.attributes ++ (le_bytes 4 st.edition ++ (le_bytes 4 st.protected ++ (le_bytes 4 st.entries ++ words_bytes st.map))))) in
-    rw (e5, e4, e3, e2, e1) (sym (sets-append st.guid rest r 0 ∙ ap (λ (k : ℕ). sets (sets r 0 st.guid) (0 + k) rest) g))
+    rw (e5, e4, e3, e2, e0, e1) (sym (sets-append st.guid rest r 0 ∙ ap (λ (k : ℕ). sets (sets r 0 st.guid) (0 + k) rest) g))
 
 -- on 304 bytes they leave the packed state, which is copied to the front of the room
 pub pack_done : (st : State) (r s room front : List ℕ) → length r ≡ state_bytes → length st.guid ≡ 16 → length st.map ≡ map_words

@@ -16,10 +16,3 @@ module _ (mode : ℕ) (buffer : List ℕ) (used section_type : ℕ) (body answer
   pub append_few : length answer < answer_bytes → called 5 (buffer ∷ answer ∷ []) ≡ append_call mode buffer used section_type body answer
   unfolding append_call
   append_few h = rw (few (length answer) answer_bytes [] h)
-
-  pub append_done : answer_bytes ≤ length answer → (a : Answer) (number : ℕ) (buffer' after : List ℕ)
-      → (a ≡ append_of (mode_of mode) (length buffer) used section_type (length body)) × (buffer' ≡ buffer_after (mode_of mode) buffer used section_type body)
-      → (number ≡ number_of a) × (after ≡ answer_stored (values_of a) answer)
-      → called number (buffer' ∷ after ∷ []) ≡ append_call mode buffer used section_type body answer
-  unfolding append_call
-  append_done room a number buffer' after is e = rw (enough (length answer) answer_bytes [] none room no_row, ← is.0, is.1, e.0, e.1)

@@ -6,12 +6,9 @@ use mathlib.Core.Option.{none, some}
 use lib.ListN.{length, drop}
 use Rattle.common.specs.Answers.{Answer, number_of, values_of}
 use Rattle.common.proofs.Refusals.{no_row}
-use Rattle.volume.specs.Header.{opens, open_volume, opening_answer}
-use Rattle.volume.specs.declared.header.Opening as Opening
 use Rattle.volume.specs.declared.state.State.{State}
 use Rattle.block_service.specs.Erase.{list_words}
-use Rattle.block_service.specs.Service.{result_of, step, read, write, erase_blocks, erased_answer}
-use Rattle.block_service.specs.declared.service.Erased as Erased
+use Rattle.block_service.specs.Service.{result_of, step, read, write, erase_blocks}
 use Rattle.fv.specs.Answer.{answer_bytes, answer_stored}
 use Rattle.fv.specs.Called.{called}
 use Rattle.fv.specs.Packed.{packed, unpacked, state_bytes}
@@ -24,16 +21,6 @@ module _ (state volume : List ℕ) (base : ℕ) where
   pub open_few : length state < state_bytes → called 5 (state ∷ []) ≡ open_call state volume base
   unfolding open_call
   open_few h = rw (few (length state) state_bytes [] h)
-
-  module _ (long : state_bytes ≤ length state) (answer : Opening.Opening) (st : State) (is : opens (opening_answer answer) st ≡ open_volume volume base) where
-    pub open_refused : (n : ℕ) → answer ≡ Opening.TheVariants.Refused n → called n (state ∷ []) ≡ open_call state volume base
-    unfolding open_call opening_answer state_after number_of
-    open_refused n e = rw (enough (length state) state_bytes [] none long no_row, ← is, e)
-
-    pub open_done : (after : List ℕ) → answer ≡ Opening.TheVariants.Success → after ≡ packed st ++ drop state_bytes state
-        → called 0 (after ∷ []) ≡ open_call state volume base
-    unfolding open_call opening_answer state_after number_of
-    open_done after e f = rw (enough (length state) state_bytes [] none long no_row, ← is, e, f)
 
 -- ---- reads and writes
 
@@ -79,13 +66,3 @@ module _ (state volume list : List ℕ) where
   pub erase_few : length state < state_bytes → called 5 (volume ∷ []) ≡ erase_call state volume list
   unfolding erase_call
   erase_few h = rw (few (length state) state_bytes [] h)
-
-  module _ (long : state_bytes ≤ length state) (erased : Erased.Erased) (st : State) (volume' : List ℕ)
-      (is : result_of (erased_answer erased) st volume' [] ≡ step (unpacked state) volume (erase_blocks (list_words list))) where
-    pub erase_done : erased ≡ Erased.TheVariants.Success → called 0 (volume' ∷ []) ≡ erase_call state volume list
-    unfolding erase_call erased_answer number_of
-    erase_done e = rw (enough (length state) state_bytes [] none long no_row, ← is, e)
-
-    pub erase_refused : (n : ℕ) → erased ≡ Erased.TheVariants.Refused n → called n (volume' ∷ []) ≡ erase_call state volume list
-    unfolding erase_call erased_answer number_of
-    erase_refused n e = rw (enough (length state) state_bytes [] none long no_row, ← is, e)

@@ -1,17 +1,17 @@
--- Laws of decimal text: without the counter of `places_from`, and for the loops that count and store digits.
+-- Laws of decimal text: without the counter of `places_from`, and for the loop that makes digits.
 use Prim.Native.Nat.{ℕ, zero, suc, ◌+◌, ◌-◌, ◌/◌, ◌%◌, ◌^◌, ◌≤◌, ◌<◌, suc-le-suc}
-use mathlib.Core.Path.{◌≡◌, refl, sym, ap, ◌∙◌}
+use mathlib.Core.Path.{◌≡◌, refl, sym, ap, ap₂, ◌∙◌}
 use mathlib.Core.Bool.{Bool, true, false, cond}
 use mathlib.Core.List.{List, [], ◌∷◌, ◌++◌, append_assoc, append-nil}
 use native.Mathlib.Nat.{pow-suc}
 use native.Mathlib.Omega.{arith}
 use borrow.Author.Tests.{ltb-true, ltb-false, lt-ltb, le-ltb}
 use lib.Dec.{ltb}
-use lib.ListN.{length, set, length-append}
-use lib.Seq.{sets}
-use Rattle.common.proofs.Lists.{set-sets}
-use Rattle.numbers.specs.LittleEndian.{le_bytes}
-use Rattle.listing.specs.Decimal.{places_from, places, digits, decimal, zero_digit}
+use native.Mathlib.Numerals.{add-one}
+use lib.ListN.{length, set, drop, length-append, length-set, drop_of_length-le}
+use lib.Seq.{drop-cons, drop-set-lt}
+use Rattle.std.proofs.Common.{get_or-set_same}
+use Rattle.listing.specs.Decimal.{places_from, places, digits, decimal, max_digits, zero_digit}
 
 -- any counter that is at least the number gives the same
 places_same : (k m n : ℕ) → n ≤ k → n ≤ m → places_from k n ≡ places_from m n
@@ -57,59 +57,62 @@ places_bound (suc k) n h = go (ltb n 10) refl (places_bound k (n / 10))
         let w = rw (pow-suc 10 (suc k)) at h in
         rw (places_more n (ltb-false n 10 e)) (suc-le-suc (f (omega arith)))
 
+-- and none has no digit
+places_positive : (n : ℕ) → 1 ≤ places n
+places_positive n = go (ltb n 10) refl
+  where
+    go : (t : Bool) → ltb n 10 ≡ t → 1 ≤ places n
+    go true e = rw (places_one n (ltb-true n 10 e)) (omega arith)
+    go false e = rw (places_more n (ltb-false n 10 e)) (omega arith)
+
 pub length_digits : (k n : ℕ) → length (digits k n) ≡ k
 unfolding digits
 length_digits zero n = refl
 length_digits (suc k) n = rw (length-append (digits k (n / 10)) ((zero_digit + n % 10) ∷ []), length_digits k (n / 10)) (omega arith)
 
--- where a loop that stores digits from the last to the first stands: `tail` is stored from place i on, and digits of `rest` are left
-pub record Spelled (k x at : ℕ) (before room : List ℕ) (rest i : ℕ) : Type 0 where
-  pub tail : List ℕ
-  pub same : digits k x ≡ digits i rest ++ tail
-  pub stored : room ≡ sets before (at + i) tail
+-- a digit that is put before others
+put_before : (buffer : List ℕ) (start v : ℕ) → start < length buffer → drop start (set buffer start v) ≡ v ∷ drop (start + 1) buffer
+put_before buffer start v h =
+    drop-cons (set buffer start v) start 0 (rw (length-set buffer start v) h)
+    ∙ ap₂ (λ (x : ℕ) (l : List ℕ). x ∷ l) (get_or-set_same buffer start v 0 h) (drop-set-lt (suc start) buffer start v (omega arith) ∙ rw add-one)
 
-pub spelled_start : (k x at : ℕ) (room : List ℕ) → Spelled k x at room room x k
-spelled_start k x at room = record { tail = []; same = sym (append-nil (digits k x)); stored = refl }
+-- where a loop that makes digits from the last to the first stands: those of `rest` are left, and place `start` is for the next
+pub record Spelled (x rest start : ℕ) (buffer : List ℕ) : Type 0 where
+  pub most : places x ≤ max_digits
+  pub within : start < max_digits
+  pub room : start + 1 + places x ≡ max_digits + places rest
+  pub same : decimal x ≡ decimal rest ++ drop (start + 1) buffer
 
-spelled_step : (k x at : ℕ) (before room : List ℕ) (rest i : ℕ) → 0 < i → Spelled k x at before room rest i
-    → Spelled k x at before (sets room (at + (i - 1)) (le_bytes 1 (zero_digit + rest % 10))) (rest / 10) (i - 1)
-unfolding digits le_bytes
-spelled_step k x at before room rest i h s =
-    let d = zero_digit + rest % 10 in
-    let e : i ≡ suc (i - 1) = omega arith in
-    let small : d % 256 ≡ d = omega arith in
-    let place : suc (at + (i - 1)) ≡ at + i = omega arith in
-    record {
-      tail = d ∷ s.tail;
-      same = s.same ∙ ap (λ (n : ℕ). digits n rest ++ s.tail) e ∙ append_assoc (digits (i - 1) (rest / 10)) (d ∷ []) s.tail;
-      stored =
-          ap (λ (l : List ℕ). set l (at + (i - 1)) (d % 256)) s.stored
-          ∙ ap (λ (y : ℕ). set (sets before (at + i) s.tail) (at + (i - 1)) y) small
-          ∙ set-sets s.tail before (at + i) (at + (i - 1)) d (omega arith)
-          ∙ ap (λ (y : ℕ). sets (set before (at + (i - 1)) d) y s.tail) (sym place);
-    }
+pub spelled_start : (x : ℕ) (buffer : List ℕ) → length buffer ≡ max_digits → places x ≤ max_digits → Spelled x x 19 buffer
+spelled_start x buffer long most =
+    record { most = most; within = omega arith; room = refl; same = sym (ap (λ (l : List ℕ). decimal x ++ l) (drop_of_length-le buffer {i = 20} (omega arith)) ∙ append-nil (decimal x)) }
 
-pub spelled_next : (k x at : ℕ) (before room after : List ℕ) (rest i j digit fewer : ℕ) → 0 < i → Spelled k x at before room rest i
-    → after ≡ sets room j (le_bytes 1 digit) → j ≡ at + (i - 1) → digit ≡ zero_digit + rest % 10 → fewer ≡ rest / 10
-    → Spelled k x at before after fewer (i - 1)
-spelled_next k x at before room after rest i j digit fewer h s e p q r = rw (e, p, q, r) (spelled_step k x at before room rest i h s)
+module _ (x rest start : ℕ) (buffer : List ℕ) (long : length buffer ≡ max_digits) (s : Spelled x rest start buffer) where
+  -- a number of two digits has room for another
+  pub room_left : 10 ≤ rest → 1 ≤ start
+  room_left h = let m = places_more rest h in let p = s.most in let r = s.room in let one = places_positive (rest / 10) in omega arith
 
-pub spelled_end : (k x at : ℕ) (before room : List ℕ) (rest i : ℕ) → i ≤ 0 → Spelled k x at before room rest i → room ≡ sets before at (digits k x)
-unfolding digits
-spelled_end k x at before room rest i h s =
-    let z : i ≡ 0 = omega arith in
-    let p : at + i ≡ at = omega arith in
-    s.stored ∙ ap (λ (y : ℕ). sets before y s.tail) p ∙ ap (λ (l : List ℕ). sets before at l) (sym (rw z at s.same))
+  pub spelled_next : 10 ≤ rest → Spelled x (rest / 10) (start - 1) (set buffer start (zero_digit + rest % 10))
+  spelled_next h =
+      let d = zero_digit + rest % 10 in
+      let left = room_left h in
+      let next : start - 1 + 1 ≡ start = omega arith in
+      let m = places_more rest h in
+      let p = s.room in
+      let q = s.within in
+      record {
+        most = s.most;
+        within = omega arith;
+        room = omega arith;
+        same =
+            s.same
+            ∙ ap (λ (l : List ℕ). l ++ drop (start + 1) buffer) (decimal_more rest h)
+            ∙ append_assoc (decimal (rest / 10)) (d ∷ []) (drop (start + 1) buffer)
+            ∙ ap (λ (l : List ℕ). decimal (rest / 10) ++ l) (sym (put_before buffer start d (omega arith)))
+            ∙ ap (λ (k : ℕ). decimal (rest / 10) ++ drop k (set buffer start d)) (sym next);
+      }
 
--- ---- where a loop that counts digits stands
-
--- k digits are counted, and those of `rest` are left
-pub counted_next : (x k rest : ℕ) → 10 ≤ rest → places x + 1 ≡ k + places rest → places x + 1 ≡ k + 1 + places (rest / 10)
-counted_next x k rest h e = let m = places_more rest h in omega arith
-
-pub counted_end : (x k rest : ℕ) → rest < 10 → places x + 1 ≡ k + places rest → k ≡ places x
-counted_end x k rest h e = let m = places_one rest h in omega arith
-
--- a tenth of a number that has two digits is less than it
-pub smaller : (n : ℕ) → 10 ≤ n → n / 10 < n
-smaller n h = omega arith
+  pub spelled_end : rest < 10 → drop start (set buffer start (zero_digit + rest)) ≡ decimal x
+  spelled_end h =
+      let q = s.within in
+      put_before buffer start (zero_digit + rest) (omega arith) ∙ sym (s.same ∙ ap (λ (l : List ℕ). l ++ drop (start + 1) buffer) (decimal_one rest h))

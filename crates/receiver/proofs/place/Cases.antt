@@ -4,7 +4,7 @@ use Rattle.std.proofs.lemmas.List.{map-set}
 use borrow.Author.Tests.{lt-leb}
 use Rattle.std.proofs.Math.ListN.{get_or-map}
 use Rattle.receiver.specs.Tally.{wrapped}
-use Rattle.receiver.specs.Place.{Header, Body, Padding, Complete, Refused, Place, placed, place_of, lefts_of, pads_of, started, arrived, padding, entered}
+use Rattle.receiver.specs.Place.{Header, Body, Padding, Refused, Place, placed, place_of, lefts_of, pads_of, started, arrived, padding, entered}
 use Rattle.receiver.specs.declared.place.Level.{Level}
 use Rattle.receiver.specs.declared.place.Place as Code
 
@@ -20,11 +20,6 @@ module _ (levels : List Level) where
   pad_at d = get_or-map (λ (l : Level). l.pad) levels d (record { left = 0; pad = 0 })
 
   module _ (at left : ℕ) where
-    pub at_complete : (depth : ℕ) → left ≡ 0 → depth ≡ 0 → placed Complete at left depth (lefts_of levels) (pads_of levels) ≡ arrived depth at left (lefts_of levels) (pads_of levels)
-    unfolding arrived
-    at_complete zero e d = rw (eq-eqb left 0 e)
-    at_complete (suc n) e d = absurd (omega arith)
-
     pub at_padding : (depth : ℕ) → left ≡ 0 → (depth ≡ 0 → ⊥) → ((level (depth - 1)).pad ≡ 0 → ⊥)
         → placed (Padding (level (depth - 1)).pad) (wrapped (at + (level (depth - 1)).pad)) (level (depth - 1)).left (depth - 1) (lefts_of levels) (pads_of levels)
         ≡ arrived depth at left (lefts_of levels) (pads_of levels)

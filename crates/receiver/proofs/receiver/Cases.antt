@@ -1,5 +1,5 @@
 -- With one byte more of a header, as the code has it: in the receiver that holds this byte too.
-use Rattle.std.proofs.Common.{◌≡◌, ℕ, ◌+◌, List, take, set, refl, ap, ◌∙◌}
+use Rattle.std.proofs.Common.{◌≡◌, ℕ, ◌+◌, List, set, refl, ap, ◌∙◌}
 use Rattle.sections.specs.Partial.{partial_of, Partial}
 use Rattle.receiver.specs.Place.{Header}
 use Rattle.receiver.specs.Receiver.{Receiver, receiver, looked, met, stepped}

@@ -1,5 +1,5 @@
 -- The bytes of a portion, one after the other: a byte more, the bytes of a body at once, and those that do not matter.
-use Rattle.std.proofs.Common.{◌≡◌, ℕ, zero, suc, ◌-◌, ◌<◌, ◌≤◌, List, [], ◌∷◌, length, get_or, drop, refl, ap, ◌∙◌, arith, drop_of_length-le, drop-cons, le-leb}
+use Rattle.std.proofs.Common.{◌≡◌, ℕ, zero, suc, ◌-◌, ◌<◌, ◌≤◌, List, [], ◌∷◌, length, get_or, drop, refl, ap, ◌∙◌, arith, drop-cons, le-leb}
 use borrow.Author.Tests.{lt-leb}
 use Rattle.receiver.specs.Place.{with_phase, onwards, Phase, Body, Complete, Exceeded, Refused}
 use Rattle.receiver.specs.Receiver.{at_place, passed, stepped, fed, Receiver}

@@ -1,12 +1,12 @@
 -- What a receiver takes at once comes to the same as its bytes one after the other.
-use Rattle.std.proofs.Common.{◌≡◌, ℕ, zero, suc, ◌+◌, ◌-◌, ◌<◌, ◌≤◌, Bool, true, false, cond, eqb, ltb, List, [], ◌∷◌, length, get_or, take, drop, refl, ap, ◌∙◌, add-zero, add-one, arith, length-drop, get_or-drop, drop-cons, drop-drop, ltb-false, ltb-true, ne_eqb, eqb-true}
+use Rattle.std.proofs.Common.{◌≡◌, ℕ, zero, suc, ◌+◌, ◌-◌, ◌<◌, ◌≤◌, Bool, true, false, cond, eqb, ltb, List, [], ◌∷◌, length, get_or, take, drop, refl, ap, ◌∙◌, arith, length-drop, drop-drop, ltb-false, ltb-true, ne_eqb}
 use lib.Seq.{drop-length}
 use Rattle.sections.specs.Partial.{partial_of, Partial}
 use Rattle.receiver.specs.Place.{with_phase, onwards, Phase, Header, Body, Padding, Complete, Exceeded, Refused, Place}
 use Rattle.receiver.specs.Receiver.{at_place, stepped, fed, looked, padding_step, Receiver}
 use Rattle.receiver.specs.Steps.{Taken, body_place, body_used, header_bytes}
-use Rattle.receiver.proofs.receiver.Fed.{fed-step, fed_exceeded, fed-refused, fed_complete, fed_body, there, fed_none, fed_all}
-use Rattle.receiver.proofs.receiver.Sound.{Fits, fits_sound, there_fits, looked_fits, stepped_fits}
+use Rattle.receiver.proofs.receiver.Fed.{fed-step, fed_exceeded, fed-refused, fed_complete, fed_body, fed_none, fed_all}
+use Rattle.receiver.proofs.receiver.Sound.{Fits, sound_fits, fits_sound, there_fits, looked_fits, stepped_fits}
 use Rattle.receiver.proofs.receiver.Whole.{look_at, whole_header}
 
 module _ (r : Receiver) (s : List ℕ) (f : Fits r.place) where
@@ -76,3 +76,16 @@ module _ (r : Receiver) (s : List ℕ) (f : Fits r.place) where
         some = w.1;
         within = omega (arith, w.2, enough);
       })
+
+-- some, and then of the body that comes next
+pub section_taken : {r x : Receiver} {s : List ℕ} {u n used : ℕ} {p : Place} → Taken r s x u → x.place.phase ≡ Body n → u < length s
+    → p ≡ body_place x.place n (length s - u) → used ≡ body_used n (length s - u) → Taken r s (at_place x p) (u + used)
+section_taken {r} {x} {s} {u} {n} {used} {p} a e more q v = let l = length-drop u s in both (body_taken x (drop u s) (sound_fits x a.whole) e (rw l q) (rw l v) (omega (arith, l)))
+  where
+    both : Taken x (drop u s) (at_place x p) used → Taken r s (at_place x p) (u + used)
+    both b =
+        let w = b.within in
+        let i = a.within in
+        let m = a.some in
+        let l = length-drop u s in
+        record { same = a.same ∙ b.same ∙ ap (fed (at_place x p)) (drop-drop used u s); whole = b.whole; some = omega (arith, m); within = omega (arith, w, l, i) }

@@ -1,5 +1,5 @@
 -- What the size reader meets, test by test, in order: which header stands at a start, and 201 to 203, which it decides alone.
-use Prim.Native.Nat.{ℕ, ◌+◌, ◌-◌, ◌≤◌, ◌<◌}
+use Prim.Native.Nat.{ℕ, ◌+◌, ◌≤◌, ◌<◌}
 use mathlib.Core.Path.{◌≡◌, refl, sym, ◌∙◌}
 use mathlib.Core.Bool.{Bool, true, false, cond, ◌&&◌}
 use mathlib.Core.List.{List}
@@ -10,13 +10,12 @@ use lib.Dec.{eqb, ltb}
 use Rattle.common.specs.Refusals.{first_refusal, unless_refused}
 use Rattle.common.proofs.Refusals.{row_applies, row_passes, row-passed, no_row}
 use Rattle.numbers.specs.LittleEndian.{le}
-use Rattle.sections.specs.Types.{type_info}
 use Rattle.sections.specs.Header.{is_pi, size_field, largest_field, is_long, header_length, size_at, type_at, least_size}
-use Rattle.sections.specs.Header.{is_holder, size_faults}
+use Rattle.sections.specs.Header.{size_faults}
 use Rattle.sections.specs.Header.{sized_at, tested_of}
 use Rattle.sections.specs.declared.header.Mode.{Mode}
 use Rattle.sections.specs.declared.header.Mode.TheVariants.{Framework}
-use Rattle.sections.specs.Header.{Size, Refused, Sized}
+use Rattle.sections.specs.Header.{Size, Refused}
 
 -- which header it is
 pub not_long_framework : (field : ℕ) → is_long Framework field ≡ false

@@ -7,7 +7,7 @@ use mathlib.Core.List.{List}
 use mathlib.Core.Option.{some}
 use native.Mathlib.Omega.{arith}
 use native.Mathlib.Nat.{add-zero, zero-add}
-use borrow.Author.Tests.{ltb-true, ltb-false, eqb-true}
+use borrow.Author.Tests.{ltb-true, ltb-false}
 use lib.Dec.{eqb, ltb}
 use lib.ListN.{get_or, drop}
 use lib.Seq.{get_or-drop}
@@ -19,8 +19,7 @@ use Rattle.sections.specs.Header.{grown, is_holder, own_fields, contents_at, pac
 use Rattle.sections.specs.Partial.{contents_fields, bytes_for, bytes_for_head, needed, fields_for}
 use Rattle.sections.specs.declared.header.Mode.{Mode}
 use Rattle.sections.specs.Header.{Head, Fault, Closed, Open}
-use Rattle.sections.proofs.types.Rows.{holder_guid}
-use Rattle.sections.proofs.header.Decided.{own_fields_lem, own_least}
+use Rattle.sections.proofs.header.Decided.{own_least}
 use Rattle.sections.proofs.header.Sizes.{Fits, header_range, short_size_lem, long_header_lem, long_size}
 use Rattle.sections.proofs.header.Tests.{in_refused, in_leaf, in_holder}
 use Rattle.sections.proofs.partial.Views.{says_201, says_201_long, Past, refuses, is_leaf, is_holder_lem, past, needed_header, needed_three, needed_most, own_holder, contents_own}

@@ -1,13 +1,13 @@
 -- What a search shows: the code's answer is the definition's; a part that is shown lies inside the stream; an instance of a type is
 -- found exactly when it is below the number of sections of that type; the first fault, and 14.
 use Prim.Native.Nat.{ℕ, zero, suc, ◌+◌, ◌≤◌, ◌<◌}
-use mathlib.Core.Path.{◌≡◌, refl, sym, ap, ◌∙◌}
+use mathlib.Core.Path.{◌≡◌, refl, ap, ◌∙◌}
 use mathlib.Core.Bool.{Bool, true, false, cond}
 use mathlib.Core.List.{List, [], ◌∷◌}
 use mathlib.Core.Logic.{◌↔◌}
 use mathlib.Core.Option.{Option, none, some}
 use native.Mathlib.Omega.{arith}
-use Rattle.std.specs.Prelude.{None as NoneOf, Result, IsErrAnd}
+use Rattle.std.specs.Prelude.{Result, IsErrAnd}
 use Rattle.std.proofs.lemmas.Result.{err_from_is_err_and}
 use Rattle.common.specs.Refusal.{number}
 use Rattle.common.specs.declared.refusal.Refusal.{Refusal}
@@ -19,10 +19,14 @@ use Rattle.common.specs.Answers.{refused, success, number_of}
 use Rattle.common.specs.Refusals.{unless_refused}
 use Rattle.sections.specs.Walk.{Trace, done, fault, section, walk, stream_limit, stream_walk}
 use Rattle.sections.specs.Seek.{Refused, Left, run, carried, seek_answer}
+use Rattle.std.specs.Option.{ok_or}
+use Rattle.common.specs.declared.refusal.Refusal.TheVariants.{NotFound}
+use Rattle.sections.specs.declared.walk.Walk.{Walk}
+use Rattle.sections.specs.declared.walk.Walk.TheVariants.{Ended}
 use Rattle.sections.specs.declared.walk.Wanted.{Wanted}
 use Rattle.sections.specs.Search.{Section, sections, first_fault, of_type, part_answer, search_of, found_answer, WellFormed, count_of}
 use Rattle.sections.specs.declared.header.Mode.{Mode}
-use Rattle.sections.proofs.walk.Carried.{carried_fault, run_answer}
+use Rattle.sections.proofs.walk.Carried.{answer_end, carried_fault, run_answer}
 use Rattle.sections.proofs.walk.Inside.{Inside, inside_walk}
 
 -- a section of a type on the walk lies where the walk does
@@ -68,19 +72,24 @@ module _ (mode : Mode) where
   unfolding search_of stream_walk first_fault
   search_206 s t instance h = rw (lt-ltb (stream_limit mode) (length s) h)
 
-  pub sought_206 : (s : List ℕ) (x : Wanted) → stream_limit mode < length s → refused 206 ≡ seek_answer (run x.section_type (carried NoneOf x) (stream_walk mode s))
+  pub sought_206 : (s : List ℕ) (x : Wanted) → stream_limit mode < length s → refused 206 ≡ seek_answer (run x.section_type (carried Ended x) (stream_walk mode s))
   unfolding stream_walk run seek_answer
   sought_206 s x h = rw (lt-ltb (stream_limit mode) (length s) h, ← carried_fault 206 x)
 
   -- what is sought, as the walk through the stream has it
   pub sought_walk : (s : List ℕ) (x : Wanted) → length s ≤ stream_limit mode
-      → seek_answer (run x.section_type (carried NoneOf x) (walk mode 7 s 0)) ≡ seek_answer (run x.section_type (carried NoneOf x) (stream_walk mode s))
+      → seek_answer (run x.section_type (carried Ended x) (walk mode 7 s 0)) ≡ seek_answer (run x.section_type (carried Ended x) (stream_walk mode s))
   unfolding stream_walk
   sought_walk s x h = rw (le-ltb (stream_limit mode) (length s) h)
 
+  pub sought_end : (s : List ℕ) (x y : Wanted) (end : Walk) (r : Result Part Refusal) → r ≡ ok_or y.found NotFound → length s ≤ stream_limit mode
+      → carried end y ≡ run x.section_type (carried Ended x) (walk mode 7 s 0)
+      → found_answer r ≡ seek_answer (run x.section_type (carried Ended x) (stream_walk mode s))
+  sought_end s x y end r p h walked = rw p (answer_end end y ∙ ap seek_answer walked ∙ sought_walk s x h)
+
   pub sought_fault : (s : List ℕ) (x : Wanted) (r : Result Part Refusal) (e : Refusal) → IsErrAnd r (λ y. y ≡ e) → length s ≤ stream_limit mode
-      → Refused (number e) ≡ run x.section_type (carried NoneOf x) (walk mode 7 s 0)
-      → found_answer r ≡ seek_answer (run x.section_type (carried NoneOf x) (stream_walk mode s))
+      → Refused (number e) ≡ run x.section_type (carried Ended x) (walk mode 7 s 0)
+      → found_answer r ≡ seek_answer (run x.section_type (carried Ended x) (stream_walk mode s))
   unfolding seek_answer
   sought_fault s x r e p h walked =
       let q = err_from_is_err_and r p in

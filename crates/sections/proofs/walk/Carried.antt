@@ -1,22 +1,23 @@
 -- Laws of what the code of the walk carries along: what a section does to it, an end of the walk stays, two walks in a row are run one after
 -- the other, and what is carried to the end of a walk answers the search and the search for the first.
-use Prim.Native.Nat.{ℕ, zero, suc, ◌-◌, ◌<◌}
-use mathlib.Core.Path.{◌≡◌, refl, sym, ◌∙◌}
-use mathlib.Core.Bool.{Bool, true, false, not, cond}
+use Prim.Native.Nat.{ℕ, zero, suc, ◌-◌}
+use mathlib.Core.Path.{◌≡◌, refl, sym}
+use mathlib.Core.Bool.{Bool, true, false}
 use mathlib.Core.Option.{some}
 use native.Mathlib.Omega.{arith}
-use mathlib.Core.List.{List, [], ◌∷◌}
-use borrow.Author.Tests.{eq-eqb, ne_eqb, eqb-true, eqb-false}
+use borrow.Author.Tests.{ne_eqb}
 use lib.Dec.{eqb}
 use lib.ListN.{get_elem?}
 use Rattle.std.specs.Prelude.{Option as OptionOf, None, Some}
-use Rattle.std.specs.Option.{is_some, ok_or, option_or}
+use Rattle.std.specs.Option.{is_some, ok_or}
 use Rattle.common.specs.declared.refusal.Refusal.TheVariants.{NotFound}
-use Rattle.common.specs.Answers.{Answer, refused, success}
+use Rattle.common.specs.Answers.{Answer, refused}
 use Rattle.common.specs.Refusals.{unless_refused}
 use Rattle.sections.specs.Walk.{Trace, done, fault, section, and_then}
 use Rattle.sections.specs.Seek.{Seek, Refused, Left, Met, Stopped, visited, halted, run, going, carried, seek_answer}
 use Rattle.sections.specs.declared.search.Part.{Part}
+use Rattle.sections.specs.declared.walk.Walk.{Walk}
+use Rattle.sections.specs.declared.walk.Walk.TheVariants.{Ended}
 use Rattle.sections.specs.declared.walk.Wanted.{Wanted}
 use Rattle.sections.specs.Search.{sections, first_fault, of_type, part_answer, first_answer, found_answer}
 
@@ -26,10 +27,10 @@ unfolding visited
 visited_other w t f e (Refused n) h = refl
 visited_other w t f e (Left stop i) h = rw (ne_eqb t w h)
 visited_other w t f e (Met x y) h = refl
-visited_other w t f e (Stopped x y) h = refl
+visited_other w t f e (Stopped part) h = refl
 
 -- at a fault, whatever is carried
-pub carried_fault : (n : ℕ) (x : Wanted) → Refused n ≡ halted n (carried None x)
+pub carried_fault : (n : ℕ) (x : Wanted) → Refused n ≡ halted n (carried Ended x)
 unfolding halted
 carried_fault n x = go x.found
   where
@@ -38,21 +39,22 @@ carried_fault n x = go x.found
     go (Some part) = refl
 
 -- what the code answers at the end
-pub answer_end : (o : OptionOf Part) (x : Wanted) → found_answer (ok_or (option_or o x.found) NotFound) ≡ seek_answer (carried o x)
+pub answer_end : (end : Walk) (x : Wanted) → found_answer (ok_or x.found NotFound) ≡ seek_answer (carried end x)
 unfolding seek_answer
-answer_end (Some part) x = refl
-answer_end None x = go x.found
+answer_end end x = go end x.found
   where
-    go : (o : OptionOf Part) → found_answer (ok_or (option_or None o) NotFound) ≡ seek_answer (going x.stops x.left o)
-    go None = refl
-    go (Some part) = refl
+    go : (end : Walk) (o : OptionOf Part) → found_answer (ok_or o NotFound) ≡ seek_answer (carried end (record { section_type = x.section_type; left = x.left; stops = x.stops; found = o }))
+    go Ended None = refl
+    go Ended (Some part) = refl
+    go Walk.Stopped None = refl
+    go Walk.Stopped (Some part) = refl
 
 -- and at a section: one of another type, and one after the section wanted
 module _ (x : Wanted) (t f e : ℕ) where
-  pub visit_other : (t ≡ x.section_type → ⊥) → carried None x ≡ visited x.section_type (carried None x) t f e
-  visit_other h = sym (visited_other x.section_type t f e (carried None x) h)
+  pub visit_other : (t ≡ x.section_type → ⊥) → carried Ended x ≡ visited x.section_type (carried Ended x) t f e
+  visit_other h = sym (visited_other x.section_type t f e (carried Ended x) h)
 
-  pub visit_after : is_some x.found ≡ true → carried None x ≡ visited x.section_type (carried None x) t f e
+  pub visit_after : is_some x.found ≡ true → carried Ended x ≡ visited x.section_type (carried Ended x) t f e
   unfolding visited
   visit_after h = go x.found h
     where
@@ -67,37 +69,28 @@ run-refused w n done = refl
 run-refused w n (fault m _ _) = refl
 run-refused w n (section t f e rest) = run-refused w n rest
 
-run_stopped : (w a b : ℕ) (x : Trace) → run w (Stopped a b) x ≡ Stopped a b
+run_stopped : (w : ℕ) (part : OptionOf Part) (x : Trace) → run w (Stopped part) x ≡ Stopped part
 unfolding run halted visited
-run_stopped w a b done = refl
-run_stopped w a b (fault m _ _) = refl
-run_stopped w a b (section t f e rest) = run_stopped w a b rest
+run_stopped w part done = refl
+run_stopped w part (fault m _ _) = refl
+run_stopped w part (section t f e rest) = run_stopped w part rest
 
 -- whatever the walk would still meet changes nothing
-abbrev pub Ended : ℕ → Seek → Type 0
-Ended w a = (x : Trace) → run w a x ≡ a
+abbrev pub Final : ℕ → Seek → Type 0
+Final w a = (x : Trace) → run w a x ≡ a
 
-pub ended_refused : (w n : ℕ) → Ended w (Refused n)
+pub ended_refused : (w n : ℕ) → Final w (Refused n)
 ended_refused w n x = run-refused w n x
 
-pub ended_stopped : (w f e : ℕ) → Ended w (Stopped f e)
-ended_stopped w f e x = run_stopped w f e x
-
--- where it stopped, and where it did not
-pub ended_carried : (w : ℕ) (o : OptionOf Part) (x : Wanted) → is_some o ≡ true → Ended w (carried o x)
-ended_carried w None x p = let z : ◌≡◌ {A = ℕ} 0 1 = cc in absurd (omega arith)
-ended_carried w (Some part) x p = ended_stopped w part.first part.end
-
-pub carried_on : (o : OptionOf Part) (x : Wanted) → is_some o ≡ false → carried o x ≡ carried None x
-carried_on None x p = refl
-carried_on (Some part) x p = let z : ◌≡◌ {A = ℕ} 0 1 = cc in absurd (omega arith)
+pub ended_stopped : (w : ℕ) (part : OptionOf Part) → Final w (Stopped part)
+ended_stopped w part x = run_stopped w part x
 
 run-halted : (w n : ℕ) (a : Seek) (x : Trace) → run w (halted n a) x ≡ halted n a
 unfolding halted
 run-halted w n (Refused m) x = run-refused w m x
 run-halted w n (Left stop i) x = run-refused w n x
 run-halted w n (Met f e) x = run-refused w n x
-run-halted w n (Stopped f e) x = run_stopped w f e x
+run-halted w n (Stopped part) x = run_stopped w part x
 
 pub run_then : (w : ℕ) (a : Seek) (x y : Trace) → run w a (and_then x y) ≡ run w (run w a x) y
 unfolding run and_then
@@ -140,5 +133,5 @@ run_first w (section t f e rest) = go (eqb t w) refl (run_first w rest)
   where
     go : (b : Bool) → eqb t w ≡ b → seek_answer (run w (Left true 0) rest) ≡ first_answer w rest
         → seek_answer (run w (Left true 0) (section t f e rest)) ≡ first_answer w (section t f e rest)
-    go true x ih = rw (x, run_stopped w f e rest)
+    go true x ih = rw (x, run_stopped w (Some (record { first = f; end = e })) rest)
     go false x ih = rw x ih

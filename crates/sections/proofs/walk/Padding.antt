@@ -1,6 +1,6 @@
 -- Laws of padding: the test that its bytes are zero, byte by byte, the first that is not, and what follows a section by that test.
-use Prim.Native.Nat.{ℕ, zero, suc, ◌+◌, ◌-◌, ◌≤◌, ◌<◌, min}
-use mathlib.Core.Path.{◌≡◌, refl, sym}
+use Prim.Native.Nat.{ℕ, zero, suc, ◌+◌, ◌-◌, ◌≤◌, ◌<◌}
+use mathlib.Core.Path.{◌≡◌, refl}
 use mathlib.Core.Bool.{Bool, true, false, cond, ◌&&◌}
 use mathlib.Core.List.{List}
 use mathlib.Core.Option.{Option, none, some}
@@ -9,9 +9,8 @@ use native.Mathlib.Omega.{arith}
 use borrow.Author.Tests.{eqb-true, eqb-false, ltb-true, ltb-false}
 use lib.Dec.{eqb, ltb}
 use lib.ListN.{length, get_or, take, drop, get_or-eq_default, length-drop, drop_of_length-le}
-use lib.Seq.{drop-cons}
+use lib.Seq.{drop-cons, take-length}
 use Rattle.std.specs.List.{list_all}
-use Rattle.std.proofs.lemmas.List.{take_min}
 use Rattle.sections.specs.Walk.{Trace, fault, aligned, zeros, first_nonzero, after_padding}
 use Rattle.sections.specs.Search.{first_fault}
 
@@ -59,7 +58,7 @@ zeros_past s at zero h = refl
 zeros_past s at (suc n) h = rw (get_or-eq_default s 0 h) (zeros_past s (at + 1) n (omega arith))
 
 -- so the test is one of the bytes that are there
-zeros_all : (s : List ℕ) (at n : ℕ) → zeros s at n ≡ list_all (λ b. eqb b 0) (take n (drop at s))
+pub zeros_all : (s : List ℕ) (at n : ℕ) → zeros s at n ≡ list_all (λ b. eqb b 0) (take n (drop at s))
 unfolding zeros
 zeros_all s at zero = refl
 zeros_all s at (suc n) = go (ltb at (length s)) refl (zeros_all s (at + 1) n)
@@ -71,10 +70,8 @@ zeros_all s at (suc n) = go (ltb at (length s)) refl (zeros_all s (at + 1) n)
         let h = ltb-false at (length s) e in
         rw (drop_of_length-le s {i = at} h, zeros_past s (at + 1) n (omega arith), get_or-eq_default s 0 h)
 
-pub zeros_padding : (s : List ℕ) (at next m : ℕ) → m ≡ min next (length s) → zeros s at (next - at) ≡ list_all (λ b. eqb b 0) (take (m - at) (drop at s))
-zeros_padding s at next m e =
-    let k : m - at ≡ min (next - at) (length (drop at s)) = rw length-drop (omega arith) in
-    rw (k, take_min) (zeros_all s at (next - at))
+pub whole_rest : (s : List ℕ) (at : ℕ) → take (length s - at) (drop at s) ≡ drop at s
+whole_rest s at = let e : length s - at ≡ length (drop at s) = rw length-drop refl in rw e (take-length (drop at s))
 
 -- after a section that ends at byte e: the walk at the next start, or 207
 pub padding_zero : (s : List ℕ) (base e : ℕ) (rest : ℕ → Trace) → zeros s e (aligned e - e) ≡ true → after_padding s base e rest ≡ rest (aligned e)

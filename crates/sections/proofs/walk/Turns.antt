@@ -9,11 +9,10 @@ use Rattle.std.specs.Prelude.{Option as OptionOf, None, Some}
 use Rattle.std.specs.Option.{is_some}
 use Rattle.sections.specs.Header.{Fault, opened, head_at}
 use Rattle.sections.specs.Walk.{Trace, done, section, and_then, aligned, zeros, part, after_padding, walk}
-use Rattle.sections.specs.Seek.{Seek, Refused, visited, halted, run, carried}
+use Rattle.sections.specs.Seek.{Seek, visited, halted, run}
 use Rattle.sections.specs.declared.header.Mode.{Mode}
 use Rattle.sections.specs.declared.header.Section.{Section}
-use Rattle.sections.specs.declared.walk.Wanted.{Wanted}
-use Rattle.sections.proofs.walk.Carried.{Ended, carried_fault, run_then}
+use Rattle.sections.proofs.walk.Carried.{Final, run_then}
 use Rattle.sections.proofs.walk.Padding.{padding_zero, padding_207}
 use Rattle.sections.proofs.walk.Starts.{walk_from, walk-from_start, walk_end, walk_fault, walk_closed, walk_205, walk_open}
 
@@ -72,7 +71,7 @@ module _ (mode : Mode) where
           turned = rw v (g.same ∙ ap (run w a) (walk_section n s base at k.section_type k.first k.end k.contents here h deep))
 
           -- the walk stops at it
-          pub turn_stop : Ended w b → b ≡ x
+          pub turn_stop : Final w b → b ≡ x
           turn_stop ended = sym (turned ∙ ended _)
 
           -- d: after its children, run from b
@@ -82,7 +81,7 @@ module _ (mode : Mode) where
                 ∙ ap (λ (y : Seek). run w y (after_padding s base k.end (walk_from mode n s base))) (sym children)
 
             -- it ended there
-            pub turn_children : Ended w d → d ≡ x
+            pub turn_children : Final w d → d ≡ x
             turn_children ended = sym (after ∙ ended _)
 
             pub turn_next : {next : ℕ} → next ≡ aligned k.end → zeros s k.end (next - k.end) ≡ true → Going n s base w x d next

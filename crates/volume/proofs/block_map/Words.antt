@@ -1,6 +1,6 @@
 -- Laws of a block map's words: one entry at a time, for the loops over them, and what breaks rule 107.
-use Rattle.std.specs.Prelude.{fold, count_by}
-use Rattle.std.proofs.Common.{◌≡◌, ℕ, zero, suc, ◌+◌, ◌*◌, ◌^◌, ◌<◌, ◌≤◌, min, Bool, true, false, not, ◌&&◌, ◌||◌, eqb, ltb, List, [], ◌∷◌, length, get_or, take, drop, refl, suc-mul, mul-le-mul, pos_of_ne-zero, mul-zero, zero-mul, arith, drop_of_length-le, length-drop, ltb-false, le-ltb, lt-ltb, eq-eqb, ne_eqb, eqb-true, sym, ◌∙◌, take_all, ltb-true, ◌/◌, cond, add-zero}
+use Rattle.std.specs.Prelude.{fold}
+use Rattle.std.proofs.Common.{◌≡◌, ℕ, zero, suc, ◌+◌, ◌*◌, ◌^◌, ◌<◌, ◌≤◌, min, Bool, true, false, not, ◌&&◌, ◌||◌, eqb, ltb, List, [], ◌∷◌, length, get_or, take, drop, refl, suc-mul, mul-le-mul, pos_of_ne-zero, mul-zero, zero-mul, arith, drop_of_length-le, length-drop, ltb-false, le-ltb, lt-ltb, eq-eqb, ne_eqb, eqb-true, sym, ◌∙◌, take_all, ltb-true, ◌/◌, add-one, drop-cons}
 use mathlib.Core.Bool.{or-true, or-false, and-true, and_assoc}
 use borrow.Author.Tests.{eqb-false, not-false}
 use lib.Bits.{bit_or, or_zero_l, or_add_and, and_le_r}
@@ -141,15 +141,7 @@ gathered_from g (x ∷ w) = gathered_from (bit_or g x) w ∙ rw (gathered_zero g
 pub all_gathered : (w : List ℕ) → eqb (fold bit_or 0 w) 0 ≡ all_zero w
 all_gathered w = gathered_from 0 w
 
--- a list has a zero exactly where the number of its zeros is not zero
-counted_from : (n : ℕ) (w : List ℕ) → not (eqb (fold (λ (a x : ℕ). a + cond (eqb x 0) 1 0) n w) 0) ≡ (not (eqb n 0) || has_zero w)
+-- a word of zero, and the words behind it
+pub zero_next : (w : List ℕ) (i : ℕ) → i < length w → has_zero (drop i w) ≡ (eqb (get_or w i 0) 0 || has_zero (drop (i + 1) w))
 unfolding has_zero
-counted_from n [] = sym (or-false (not (eqb n 0)))
-counted_from n (x ∷ w) = counted_from (n + cond (eqb x 0) 1 0) w ∙ step (eqb x 0)
-  where
-    step : (t : Bool) → (not (eqb (n + cond t 1 0) 0) || has_zero w) ≡ (not (eqb n 0) || (t || has_zero w))
-    step true = rw (ne_eqb (n + 1) 0 (λ z. omega arith), or-true)
-    step false = rw add-zero
-
-pub zeros_counted : (w : List ℕ) → not (eqb (count_by (λ x. eqb x 0) w) 0) ≡ has_zero w
-zeros_counted w = counted_from 0 w
+zero_next w i h = rw (add-one, drop-cons w i 0 h)

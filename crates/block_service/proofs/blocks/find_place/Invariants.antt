@@ -11,5 +11,5 @@ invariant-loop-entry l =
       lent : l.start ≤ l.lent;
       long : outgrows left l.rest (l.lent - l.start) ≡ outgrows l.words l.block l.lent;
       there : leb (blocks left) l.rest ≡ leb (blocks l.words) l.block;
-      place : place_from left l.entry l.start l.rest ≡ place l.words l.block
+      place : place_from left l.entry l.start l.rest ≡ place l.words l.block;
     }

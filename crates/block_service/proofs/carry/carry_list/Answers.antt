@@ -9,11 +9,11 @@ use Rattle.block_service.proofs.carry.Walks.{rest_whole, rest_end, rest_bound}
 use Rattle.block_service.proofs.erase.Lists.{names_within}
 use Rattle.block_service.proofs.carry.carry_list.Goals as goal
 
-pub returns-then-word : goal.returns-then-word
-returns-then-word g c =
+pub returns-then-first : goal.returns-then-first
+returns-then-first g c =
     let f = c.front-pairs in
     let w = f.ensures.walked in
-    let k = rest_whole _ _ _ _ _ _ _ _ (w.rest _ _ (rest_end _ _ _ _ _ _ _ _ _ w.within (sym c.word.ensures ∙ search rules))) in
+    let k = rest_whole _ _ _ _ _ _ _ _ (w.rest _ _ (rest_end _ _ _ _ _ _ _ _ _ w.within (sym c.pair-first.ensures.0 ∙ search rules))) in
     let a = c.args in
     let s : f.new.self.volume.now ≡ filled a.portion.value (part a.portion.from a.portion.to (erase_order a.words.now (g.L.EraseList.words a.list))) a.volume.now = k.1 in
     (k.0, search rules)

@@ -10,4 +10,4 @@ loop-j-init g c = c.requires.marks_none
 
 pub loop-j-preserved : goal.loop-j-preserved
 loop-j-preserved g c =
-    λ x. first_marks_at _ _ x _ _ _ _ (omega (arith, c.requires.pairs_in_bounds.0)) c.word-first.ensures c.word-count.ensures (c.mark.ensures x) (c.loop-j.invariant x)
+    λ x. first_marks_at _ _ x _ _ _ _ (omega (arith, c.requires.pairs_in_bounds.0)) c.pair-first.ensures.0 c.pair-first.ensures.1 (c.mark.ensures x) (c.loop-j.invariant x)

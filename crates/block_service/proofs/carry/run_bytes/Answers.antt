@@ -2,13 +2,12 @@
 use mathlib.Core.Path.{◌≡◌, sym, ◌∙◌}
 use mathlib.Core.Option.{none, some-ne-none}
 use native.Mathlib.Omega.{arith}
-use borrow.Author.Rules.{rules}
 use borrow.Author.Tests.{lt-leb}
 use Rattle.common.specs.Refusals.{first_refusal}
 use Rattle.common.proofs.Refusals.{row_passes, no_row}
 use Rattle.block_service.specs.Blocks.{place_refusals}
 use Rattle.block_service.proofs.blocks.Places.{found_start}
-use Rattle.block_service.proofs.blocks.Runs.{found_walk, walk_asks, fits}
+use Rattle.block_service.proofs.blocks.Runs.{found_entry, found_walk, walk_asks, fits}
 use Rattle.block_service.proofs.carry.run_bytes.Goals as goal
 
 -- a block that is there is found
@@ -20,8 +19,8 @@ returns-in_default c =
 
 pub run_end-requires : goal.run_end-requires
 run_end-requires c =
-    let asked = walk_asks _ _ _ _ _ _ (sym c.in-Ok.ensures.found) _ (search rules) (search rules) in
-    record { in_bounds = asked.0; count_bound = asked.1.0; count_bound_2 = asked.1.1 }
+    let hit = sym c.in-Ok.ensures.found in
+    record { in_bounds = (found_entry _ _ _ _ _ _ hit).0; count_bound = walk_asks _ _ _ _ _ _ hit _ c.requires.words_bound }
 
 pub returns : goal.returns
 returns c = let hit = sym c.in-Ok.ensures.found in (found_start _ _ _ _ _ _ hit, c.run_end.ensures ∙ found_walk _ _ _ _ _ _ hit _)

@@ -1,5 +1,5 @@
 -- At the terminator the list is good, and what was reached is all that it reaches; at a pair that does not fit, and at an end without the terminator, it is bad.
-use Prim.Native.Nat.{ℕ, ◌+◌, ◌*◌, ◌/◌, ◌<◌}
+use Prim.Native.Nat.{ℕ, ◌+◌, ◌*◌, ◌<◌}
 use mathlib.Core.Bool.{Bool, true, false, ◌||◌, or-false}
 use mathlib.Core.List.{List}
 use mathlib.Core.Path.{◌≡◌, sym, ◌∙◌}
@@ -26,40 +26,40 @@ module _ (total m : ℕ) (w : List ℕ) (i : ℕ) (reached : Bool) (good : good_
   bad e = let none : false ≡ good_list total w = e ∙ good in rw (← none)
 
 pub returns-then-first : goal.returns-then-first
-returns-then-first g c = ended _ _ _ _ _ c.loop-j.invariant.good c.loop-j.invariant.reach (sym c.word-first.ensures ∙ search rules)
+returns-then-first g c = ended _ _ _ _ _ c.loop-j.invariant.good c.loop-j.invariant.reach (sym c.pair-first.ensures.0 ∙ search rules)
 
 pub returns-then-not-pair_fits : goal.returns-then-not-pair_fits
 returns-then-not-pair_fits g c =
     let w = g.L.EraseList.words c.args.list in
     bad _ _ w _ c.loop-j.reached c.loop-j.invariant.good c.loop-j.invariant.reach
-    (bad_pair w (2 * c.loop-j.j) _ _ (omega (arith, c.len-pairs.ensures)) c.word-first.ensures c.word-count.ensures (search rules) _ _ c.pair_fits.ensures c.if-not-pair_fits.true)
+    (bad_pair w (2 * c.loop-j.j) _ _ (omega (arith, c.pairs-pairs.ensures)) c.pair-first.ensures.0 c.pair-first.ensures.1 (search rules) _ _ c.pair_fits.ensures c.if-not-pair_fits.true)
 
 pub loop-j-preserved : goal.loop-j-preserved
 loop-j-preserved g c =
     let w = g.L.EraseList.words c.args.list in
     let i = 2 * c.loop-j.j in
     let next : 2 * (c.loop-j.j + 1) ≡ i + 2 = omega arith in
-    let h : i + 1 < length w = omega (arith, c.len-pairs.ensures) in
-    let e : c.word-first.result ≡ end_of_list → ⊥ = search rules in
+    let h : i + 1 < length w = omega (arith, c.pairs-pairs.ensures) in
+    let e : c.pair-first.result.0 ≡ end_of_list → ⊥ = search rules in
     let fits = fits_known _ _ _ _ c.pair_fits.ensures c.if-not-pair_fits.false in
     record {
-      good = rw next (good_pair w i _ _ h c.word-first.ensures c.word-count.ensures e _ _ c.pair_fits.ensures c.if-not-pair_fits.false ∙ c.loop-j.invariant.good);
+      good = rw next (good_pair w i _ _ h c.pair-first.ensures.0 c.pair-first.ensures.1 e _ _ c.pair_fits.ensures c.if-not-pair_fits.false ∙ c.loop-j.invariant.good);
       reach = rw next (elim c.if-protected-first.branch [
-        | then-protected-first x ↦ rw x.reached-is (reach_hit w i _ _ h c.word-first.ensures c.word-count.ensures e _ fits.0 c.loop-j.reached _ c.loop-j.invariant.reach (omega (arith, x.if-protected-first.true)))
-        | else-protected-first x ↦ rw x.reached-is (reach_miss w i _ _ h c.word-first.ensures c.word-count.ensures e _ fits.0 c.loop-j.reached _ c.loop-j.invariant.reach (omega (arith, x.if-protected-first.false)))
+        | then-protected-first x ↦ rw x.reached-is (reach_hit w i _ _ h c.pair-first.ensures.0 c.pair-first.ensures.1 e _ fits.0 c.loop-j.reached _ c.loop-j.invariant.reach (omega (arith, x.if-protected-first.true)))
+        | else-protected-first x ↦ rw x.reached-is (reach_miss w i _ _ h c.pair-first.ensures.0 c.pair-first.ensures.1 e _ fits.0 c.loop-j.reached _ c.loop-j.invariant.reach (omega (arith, x.if-protected-first.false)))
       ]);
     }
 
 -- past the pairs at most one word is left
-pub returns-then-word : goal.returns-then-word
-returns-then-word g c =
-    let z : c.loop-j.j ≡ c.len-pairs.result / 2 = omega arith in
-    ended _ _ _ _ _ (rw z at c.loop-j.invariant.good) (rw z at c.loop-j.invariant.reach) (sym c.word.ensures ∙ search rules)
+pub returns-then-last : goal.returns-then-last
+returns-then-last g c =
+    let z : c.loop-j.j ≡ c.pairs-pairs.result = omega arith in
+    ended _ _ _ _ _ (rw z at c.loop-j.invariant.good) (rw z at c.loop-j.invariant.reach) (sym c.pair-last.ensures.0 ∙ search rules)
 
-pub returns-else-word : goal.returns-else-word
-returns-else-word g c =
-    let z : c.loop-j.j ≡ c.len-pairs.result / 2 = omega arith in
-    let e : c.word.result ≡ end_of_list → ⊥ = search rules in
+pub returns-else-last : goal.returns-else-last
+returns-else-last g c =
+    let z : c.loop-j.j ≡ c.pairs-pairs.result = omega arith in
+    let e : c.pair-last.result.0 ≡ end_of_list → ⊥ = search rules in
     let w = g.L.EraseList.words c.args.list in
     bad _ _ w _ c.loop-j.reached (rw z at c.loop-j.invariant.good) (rw z at c.loop-j.invariant.reach)
-    (not_ended w (2 * (c.len-pairs.result / 2)) _ (omega (arith, c.len-pairs.ensures)) (λ h. e (c.word.ensures ∙ h)))
+    (not_ended w (2 * c.pairs-pairs.result) _ (omega (arith, c.pairs-pairs.ensures)) (λ h. e (c.pair-last.ensures.0 ∙ h)))

@@ -1,10 +1,7 @@
 -- `block_service::service::get_block_size` meets its contract.
-use Rattle.std.proofs.Common.{◌≡◌, ◌≤◌, ◌+◌, Err, sym, ◌∙◌, arith, rules}
+use Rattle.std.proofs.Common.{◌≡◌, Err, sym, ◌∙◌, arith, rules}
 use Rattle.common.proofs.Refusals.{row_passes, no_row}
-use Rattle.volume.specs.BlockMap.{bytes}
-use Rattle.volume.specs.State.{map_of}
 use Rattle.volume.proofs.state.Lawful.{lawful}
-use Rattle.block_service.specs.Blocks.{place}
 use Rattle.block_service.specs.Service.{get_block_size, block_size_answer, buffer_of, refusals}
 use Rattle.block_service.proofs.blocks.Runs.{found_entry, found_number, number_fits}
 use Rattle.block_service.proofs.service.Steps.{tested_lawful, refused-step, size_step, place_row, place_there_lem}

@@ -1,7 +1,6 @@
 -- `read_opcode` meets its contract: each return is a row of the reader's table.
 use Rattle.std.proofs.Common.{rules, ◌≡◌, ◌∙◌, ap, Err}
 use Rattle.dependency.specs.Opcodes.{read_answer}
-use Rattle.dependency.specs.declared.opcodes.Read.{Read}
 use Rattle.common.specs.declared.refusal.Refusal.TheVariants.{UnknownOpcode}
 use Rattle.dependency.proofs.opcodes.Single.{read_none, read_unknown, read_cut, read_done}
 use Rattle.dependency.proofs.opcodes.read_opcode.Goals as goal

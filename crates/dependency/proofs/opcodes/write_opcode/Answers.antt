@@ -1,6 +1,5 @@
 -- `write_opcode` meets its contract: each return is a row of the writer's table.
-use Rattle.std.proofs.Common.{rules, ◌≡◌, ◌∙◌, ap, ℕ, List, Err}
-use Rattle.dependency.specs.Opcodes.{wrote, written_answer}
+use Rattle.std.proofs.Common.{rules, ◌≡◌, Err}
 use Rattle.common.specs.declared.refusal.Refusal.TheVariants.{UnknownOpcode}
 use Rattle.dependency.proofs.opcodes.Single.{write_unknown, write_cut, write_short, write_done}
 use Rattle.dependency.proofs.opcodes.write_opcode.Goals as goal

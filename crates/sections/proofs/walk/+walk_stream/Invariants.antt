@@ -1,8 +1,9 @@
 -- The measures, the levels left below and what is left of the stream; and the loop's invariant: what is left of the walk from here on
 -- gives the whole result.
-use Rattle.std.proofs.Common.{None, length, ◌-◌, ◌≡◌}
+use Rattle.std.proofs.Common.{length, ◌-◌, ◌≡◌}
 use Rattle.sections.specs.Seek.{run, carried}
 use Rattle.sections.specs.Walk.{walk}
+use Rattle.sections.specs.declared.walk.Walk.TheVariants.{Ended}
 use Rattle.sections.proofs.walk.Turns.{Going}
 use Rattle.sections.proofs.walk.+walk_stream.Given as goal
 
@@ -13,7 +14,7 @@ abbrev pub invariant-loop-at : goal.invariant-loop-at
 invariant-loop-at l = record {
   same : l.wanted.section_type ≡ l.initial.wanted.section_type;
   going : Going l.mode l.below l.s l.base l.initial.wanted.section_type
-      (run l.initial.wanted.section_type (carried None l.initial.wanted) (walk l.mode l.below l.s l.base)) (carried None l.wanted) l.at;
+      (run l.initial.wanted.section_type (carried Ended l.initial.wanted) (walk l.mode l.below l.s l.base)) (carried Ended l.wanted) l.at;
 }
 
 abbrev pub decreases-loop-at : goal.decreases-loop-at

@@ -1,29 +1,50 @@
--- `volume::header::open_volume` meets its contract: the two tables in a row, and the state that the second judges.
-use Rattle.std.proofs.Common.{◌≡◌, sym, arith, rules}
+-- `volume::header::open_volume` meets its contract: the two tables in a row, and the state that the second judges, whose parts are the header's.
+use Rattle.std.proofs.Common.{◌≡◌, ◌-◌, ◌/◌, sym, ap, ◌∙◌, rules}
 use Rattle.std.specs.Prelude.{Err}
-use Rattle.volume.specs.Header.{opening_of}
-use Rattle.volume.proofs.header.Fields.{readable, entries_bound, open_early, open_late, open_success}
+use Rattle.volume.specs.Header.{entries_of, fields_refusals, opening_of, state_at}
+use Rattle.volume.specs.State.{map_of, state_with}
+use Rattle.volume.specs.declared.state.State.{State}
+use Rattle.common.specs.Refusals.{first_refusal}
+use Rattle.volume.proofs.header.Fields.{state_parts, open_early, open_late, open_success}
 use Rattle.volume.proofs.header.open_volume.Goals as goal
+use Rattle.volume.proofs.header.open_volume.Goals.{After-block_count}
+
+-- the parts that are read make the header's state
+module _ (c : After-block_count) where
+  abbrev state : State
+  state =
+      record {
+        guid = c.guid_at.result;
+        length = c.u64_at.result;
+        attributes = c.u32_at.result;
+        edition = c.from.result;
+        base = c.args.base;
+        protected = c.block_count.result;
+        entries = (c.from-header.result - 64) / 8;
+        map = c.read_map.new.map;
+      }
+
+  made : state ≡ state_at c.args.volume.now c.args.base
+  unfolding state_with map_of
+  made =
+      rw (c.guid_at.ensures, c.block_count.ensures)
+      (state_parts c.args.volume.now c.args.base c.u64_at.ensures c.u32_at.ensures (c.from.ensures ∙ c.byte_at.ensures) (ap entries_of (c.from-header.ensures ∙ c.u16_at.ensures)) c.read_map.ensures)
 
 pub returns-in_err-test_bytes : goal.returns-in_err-test_bytes
 unfolding opening_of
 returns-in_err-test_bytes c =
-    let e = c.in_err-test_bytes.field-0.0 in
-    let r : c.from_residual.result ≡ Err e = search rules in
+    let r : c.from_residual.result ≡ Err c.in_err-test_bytes.field-0.0 = search rules in
     rw r (open_early _ _ _ (sym c.in_err-test_bytes.ensures))
-
-pub test_fields-requires : goal.test_fields-requires
-test_fields-requires c =
-    let r = readable c.args.volume.now (sym c.in_ok-test_bytes.ensures) in
-    rw c.state_at-state.ensures (entries_bound c.args.volume.now c.args.base r, omega (arith, r.least))
 
 pub returns-in_err-test_fields : goal.returns-in_err-test_fields
 unfolding opening_of
 returns-in_err-test_fields c =
-    let e = c.in_err-test_fields.field-0.0 in
-    let r : c.from_residual-in_err-test_fields.result ≡ Err e = search rules in
-    rw r (open_late _ _ (sym c.in_ok-test_bytes.ensures) _ (rw c.state_at-state.ensures at (sym c.in_err-test_fields.ensures)))
+    let r : c.from_residual-in_err-test_fields.result ≡ Err c.in_err-test_fields.field-0.0 = search rules in
+    let same = made (goal.at.returns-in_err-test_fields c).After-block_count in
+    rw r (open_late _ _ (sym c.in_ok-test_bytes.ensures) _ (sym (c.in_err-test_fields.ensures ∙ ap (λ (st : State). first_refusal (fields_refusals c.args.volume.now st)) same)))
 
 pub returns : goal.returns
 unfolding opening_of
-returns c = rw c.state_at-state.ensures (open_success _ _ (sym c.in_ok-test_bytes.ensures) (rw c.state_at-state.ensures at (sym c.in_ok-test_fields.ensures)))
+returns c =
+    let same = made (goal.at.returns c).After-block_count in
+    rw same (open_success _ _ (sym c.in_ok-test_bytes.ensures) (sym (c.in_ok-test_fields.ensures ∙ ap (λ (st : State). first_refusal (fields_refusals c.args.volume.now st)) same)))

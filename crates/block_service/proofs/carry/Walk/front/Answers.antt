@@ -1,5 +1,5 @@
 -- Whatever makes the rest of the walk whole from pair j on makes the order whole from the start, and every block named so far lies before `high`.
-use Prim.Native.Nat.{ℕ, ◌+◌, ◌*◌, ◌/◌, ◌≤◌, ◌<◌}
+use Prim.Native.Nat.{ℕ, ◌+◌, ◌*◌, ◌≤◌, ◌<◌}
 use mathlib.Core.Path.{◌≡◌, refl, ap, ◌∙◌}
 use mathlib.Core.Bool.{true, false}
 use mathlib.Core.List.{List}
@@ -37,8 +37,8 @@ pub run-requires-clause-count_nonzero : goal.run-requires-clause-count_nonzero
 run-requires-clause-count_nonzero g c =
     let i = c.loop-j.invariant in
     let w = g.L.EraseList.words c.args.list in
-    let e : c.word-first.result ≡ end_of_list → ⊥ = search rules in
-    let fits = pair_good w (2 * c.loop-j.j) _ _ (omega (arith, c.len-n.ensures)) c.word-first.ensures c.word-count.ensures e _ i.good in
+    let e : c.pair-first.result.0 ≡ end_of_list → ⊥ = search rules in
+    let fits = pair_good w (2 * c.loop-j.j) _ _ (omega (arith, c.pairs-n.ensures)) c.pair-first.ensures.0 c.pair-first.ensures.1 e _ i.good in
     (fits.0, rw i.same_words fits.1)
 
 pub run-requires-clause-at_bound : goal.run-requires-clause-at_bound
@@ -48,20 +48,20 @@ run-requires-clause-at_bound g c =
 pub overflow_add-high : goal.overflow_add-high
 overflow_add-high g c =
     let w = g.L.EraseList.words c.args.list in
-    let e : c.word-first.result ≡ end_of_list → ⊥ = search rules in
-    omega (arith, (pair_good w (2 * c.loop-j.j) _ _ (omega (arith, c.len-n.ensures)) c.word-first.ensures c.word-count.ensures e _ c.loop-j.invariant.good).1, c.args.self.now.words_bound)
+    let e : c.pair-first.result.0 ≡ end_of_list → ⊥ = search rules in
+    omega (arith, (pair_good w (2 * c.loop-j.j) _ _ (omega (arith, c.pairs-n.ensures)) c.pair-first.ensures.0 c.pair-first.ensures.1 e _ c.loop-j.invariant.good).1, c.args.self.now.words_bound)
 
 pub loop-j-preserved : goal.loop-j-preserved
 loop-j-preserved g c =
     let i = c.loop-j.invariant in
     let w = g.L.EraseList.words c.args.list in
     let j = c.loop-j.j in
-    let f = c.word-first.ensures in
-    let k = c.word-count.ensures in
+    let f = c.pair-first.ensures.0 in
+    let k = c.pair-first.ensures.1 in
     let next : 2 * (j + 1) ≡ 2 * j + 2 = omega arith in
-    let h : 2 * j + 1 < length w = omega (arith, c.len-n.ensures) in
-    let e : c.word-first.result ≡ end_of_list → ⊥ = search rules in
-    let past : c.loop-j.high ≤ c.word-first.result = search rules in
+    let h : 2 * j + 1 < length w = omega (arith, c.pairs-n.ensures) in
+    let e : c.pair-first.result.0 ≡ end_of_list → ⊥ = search rules in
+    let past : c.loop-j.high ≤ c.pair-first.result.0 = search rules in
     let fits = pair_good w (2 * j) _ _ h f k e _ i.good in
     let told = rw i.same_words at c.run.ensures.told in
     let stored = rw (i.same_words, i.same_portion) at c.run.ensures.stored in
@@ -77,17 +77,25 @@ loop-j-preserved g c =
       stored = rw next (pair_stored _ _ _ _ _ _ _ _ _ _ _ _ _ _ h f k e walked ∙ i.stored);
     }
 
+pub returns-then-first-clause-walked : goal.returns-then-first-clause-walked
+returns-then-first-clause-walked g c =
+    let i = c.loop-j.invariant in
+    record {
+      within = omega (arith, c.pairs-n.ensures);
+      good = i.good;
+      fits = i.fits;
+      rest = λ n u r. record { told = r.told ∙ i.told; stored = r.stored ∙ i.stored };
+    }
+
 pub returns-clause-walked : goal.returns-clause-walked
 returns-clause-walked g c =
     let i = c.loop-j.invariant in
     let w = g.L.EraseList.words c.args.list in
-    let z : c.len-n.result / 2 ≡ c.loop-j.j = omega arith in
-    let end = good_end w (2 * c.loop-j.j) _ (omega (arith, c.len-n.ensures)) i.good in
-    let within : 2 * c.loop-j.j < length w = ended_within w (2 * c.loop-j.j) end in
+    let z : c.pairs-n.result ≡ c.loop-j.j = omega arith in
+    let end = good_end w (2 * c.loop-j.j) _ (omega (arith, c.pairs-n.ensures)) i.good in
     rw z (record {
-      within = within;
+      within = ended_within w (2 * c.loop-j.j) end;
       good = i.good;
       fits = i.fits;
       rest = λ n u r. record { told = r.told ∙ i.told; stored = r.stored ∙ i.stored };
-      few = omega (arith, c.len-n.ensures);
     })

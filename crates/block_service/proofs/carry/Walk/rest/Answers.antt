@@ -10,7 +10,7 @@ use Rattle.block_service.proofs.carry.Walk.rest.Goals as goal
 
 pub mark_front-requires : goal.mark_front-requires
 mark_front-requires g c =
-    record { marks_none = c.new-marks.ensures; pairs_in_bounds = (c.requires.pairs_in_bounds.0, c.requires.by_index); pairs_bound = c.requires.pairs_bound }
+    record { marks_none = c.new-marks.ensures; pairs_in_bounds = (c.requires.pairs_in_bounds.0, c.requires.by_index) }
 
 pub pairs-requires : goal.pairs-requires
 pairs-requires g c =

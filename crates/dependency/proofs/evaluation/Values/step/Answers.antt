@@ -1,9 +1,8 @@
 -- `step` meets its contract: each opcode by what it takes and leaves.
-use Prim.Native.Nat.{ℕ}
-use mathlib.Core.Bool.{Bool, not, ◌&&◌, ◌||◌}
+use mathlib.Core.Bool.{◌&&◌, ◌||◌}
 use mathlib.Core.Logic.{inl, inr}
 use lib.Dec.{eqb, ltb, leb}
-use Rattle.std.proofs.Common.{rules, sym, refl, ap, ◌∙◌}
+use Rattle.std.proofs.Common.{rules, refl}
 use Rattle.dependency.specs.Opcodes.{version, truth, opcodes, row_of, row_among}
 use Rattle.dependency.specs.Validation.{kinds_after}
 use Rattle.dependency.specs.Evaluation.{step, applied, result_cells, cell_of}
@@ -55,14 +54,14 @@ pub returns-in-PushGuid : goal.returns-in-PushGuid
 unfolding Stepped opcodes row_of row_among kinds_after step applied result_cells cell_of number_cell
 returns-in-PushGuid c =
     elim c.in-PushGuid.is [
-      inl e ↦ rw e (λ kinds long top installed operand given. rw (← given.found refl) (put_one version kinds _ _ _ long c.push.ensures))
-    | inr e ↦ rw e (λ kinds long top installed operand given. rw (← given.number refl) (put_one version kinds _ _ _ long c.push.ensures))
+      | inl e ↦ rw e (λ kinds long top installed operand given. rw (← given.found refl) (put_one version kinds _ _ _ long c.push.ensures))
+      | inr e ↦ rw e (λ kinds long top installed operand given. rw (← given.number refl) (put_one version kinds _ _ _ long c.push.ensures))
     ]
 
 pub returns-in-VersionStr : goal.returns-in-VersionStr
 unfolding Stepped opcodes row_of row_among kinds_after step applied result_cells cell_of number_cell
 returns-in-VersionStr c =
     elim c.in-VersionStr.is [
-      inl e ↦ rw e (λ kinds long top installed operand given. (long, refl))
-    | inr e ↦ rw e (λ kinds long top installed operand given. (long, refl))
+      | inl e ↦ rw e (λ kinds long top installed operand given. (long, refl))
+      | inr e ↦ rw e (λ kinds long top installed operand given. (long, refl))
     ]

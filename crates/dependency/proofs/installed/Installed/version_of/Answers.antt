@@ -1,5 +1,5 @@
 -- `version_of` meets its contract: the rows passed are other GUIDs.
-use Rattle.std.proofs.Common.{◌≡◌, ◌∙◌, sym, inl, inr}
+use Rattle.std.proofs.Common.{◌∙◌, sym, inl, inr}
 use Rattle.dependency.proofs.installed.Table.{no_row, no_version, row_hit, row_next}
 use Rattle.dependency.proofs.installed.Installed.version_of.Goals as goal
 
@@ -16,6 +16,6 @@ loop-row-preserved c =
 pub returns : goal.returns
 returns c =
     elim c.in-None.ensures.steps [
-      inl a ↦ no_row _ _ _ _ c.loop-row.invariant a.1.0
-    | inr b ↦ no_version _ _ _ _ c.loop-row.invariant b.1.0
+      | inl a ↦ no_row _ _ _ _ c.loop-row.invariant a.1.0
+      | inr b ↦ no_version _ _ _ _ c.loop-row.invariant b.1.0
     ]

@@ -1,7 +1,5 @@
 -- `version_of` meets its contract: the rows passed are other GUIDs.
-use Prim.Native.Nat.{◌-◌, ◌≤◌}
 use mathlib.Core.Path.{◌≡◌}
-use lib.ListN.{length, drop}
 use Rattle.dependency.specs.Installed.{first_with}
 use Rattle.dependency.proofs.installed.Installed.version_of.Given as goal
 

@@ -10,6 +10,6 @@ returns-then-self c = end_passed _ _ (search rules) (search rules)
 pub returns : goal.returns
 returns c =
     elim c.else-self-eq1.branch [
-      else-self-eq1-via-then-self-eq1+else-self w ↦ end_kind _ _ w.if-self-eq1.true c.args.self.now.small w.if-self.false
-    | else-self-eq1-via-else-self-eq1 w ↦ end_depth _ _ w.if-self-eq1.false
+      | else-self-eq1-via-then-self-eq1+else-self w ↦ end_kind _ _ w.if-self-eq1.true c.args.self.now.small w.if-self.false
+      | else-self-eq1-via-else-self-eq1 w ↦ end_depth _ _ w.if-self-eq1.false
     ]

@@ -1,5 +1,4 @@
 -- `replace` meets its contract: too few, too many, another kind, or the digits after it.
-use native.Mathlib.Omega.{arith}
 use Rattle.std.proofs.Common.{rules}
 use Rattle.dependency.specs.Stack.{Follows}
 use Rattle.dependency.proofs.validation.Digits.{digit_small, power, replace_short, replace_full, replace_wrong, replace_follows, replace_small}
@@ -10,9 +9,9 @@ pub returns-then-self-taken : goal.returns-then-self-taken
 unfolding Follows
 returns-then-self-taken c =
     elim c.then-self-taken.branch [
-      then-self-taken-via-then-self-taken w ↦ replace_short _ _ _ _ c.requires.few c.requires.digits _ w.if-self-taken.true
-    | then-self-taken-via-else-self-taken+then-self-taken-ge-STACK_LIMIT w ↦
-      replace_full _ _ _ _ c.requires.few c.requires.digits w.if-self-taken.false _ w.if-self-taken-ge-STACK_LIMIT.true
+      | then-self-taken-via-then-self-taken w ↦ replace_short _ _ _ _ c.requires.few c.requires.digits _ w.if-self-taken.true
+      | then-self-taken-via-else-self-taken+then-self-taken-ge-STACK_LIMIT w ↦
+          replace_full _ _ _ _ c.requires.few c.requires.digits w.if-self-taken.false _ w.if-self-taken-ge-STACK_LIMIT.true
     ]
 
 pub returns-then-self-taken-2 : goal.returns-then-self-taken-2

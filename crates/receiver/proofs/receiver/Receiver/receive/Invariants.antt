@@ -6,7 +6,7 @@ use Rattle.receiver.proofs.receiver.Receiver.receive.Given as goal
 abbrev pub invariant-loop-rest : goal.invariant-loop-rest
 invariant-loop-rest l = record {
   whole : sound (receiver_of l.self) ≡ true;
-  same : fed (receiver_of l.self) l.rest ≡ fed (receiver_of l.initial.self) l.initial.rest
+  same : fed (receiver_of l.self) l.rest ≡ fed (receiver_of l.initial.self) l.initial.rest;
 }
 
 abbrev pub decreases-loop-rest : goal.decreases-loop-rest

@@ -1,9 +1,9 @@
 -- `Receiver::step` meets its contract, by what comes next.
-use Rattle.std.proofs.Common.{ap, ◌∙◌, inl, inr, rules}
+use Rattle.std.proofs.Common.{ap, inl, inr, rules}
 use Rattle.receiver.specs.Place.{Header, phase_of}
 use Rattle.receiver.specs.Receiver.{Receiver, receiver_of}
 use Rattle.receiver.proofs.receiver.Sound.{Fits, sound_fits}
-use Rattle.receiver.proofs.receiver.Taken.{header_taken, one_taken, body_taken, padding_taken, complete_taken, exceeded_taken, refused_taken}
+use Rattle.receiver.proofs.receiver.Taken.{one_taken, body_taken, padding_taken, complete_taken, exceeded_taken, refused_taken}
 use Rattle.receiver.proofs.receiver.Receiver.step.Goals as goal
 use Rattle.receiver.proofs.receiver.Receiver.step.Goals.{Start}
 
@@ -15,7 +15,7 @@ fits : (c : Start) → Fits (start c).place
 fits c = sound_fits (start c) c.requires.0
 
 pub whole_header-requires : goal.whole_header-requires
-whole_header-requires c = (fits (goal.at.whole_header-requires c).Start).0
+whole_header-requires c = (c.requires.0, rw c.in-Header-eq0.is (ap Header (rw c.in-Header-eq0.is at c.in-Header-eq0.field-0-test)), search rules)
 
 pub header_byte-requires : goal.header_byte-requires
 header_byte-requires c = let f = fits (goal.at.header_byte-requires c).Start in (f.0, rw c.in-Header.is at f.1)
@@ -26,15 +26,9 @@ pass_body-requires c = (fits (goal.at.pass_body-requires c).Start).0
 pub pass_padding-requires : goal.pass_padding-requires
 pass_padding-requires c = (fits (goal.at.pass_padding-requires c).Start).0
 
-pub returns-in-Some : goal.returns-in-Some
-returns-in-Some c =
-    let h = c.whole_header.ensures in
-    let here = (goal.at.returns-in-Some c).Start in
-    header_taken (start here) _ (fits here) (ap phase_of c.in-Header.is ∙ ap Header c.if-have-eq0.true) (search rules) c.in-Some.ensures.cases.enough c.in-Some.ensures.cases.same h.used h.receiver
-
-pub returns-in_default : goal.returns-in_default
-returns-in_default c =
-    let here = (goal.at.returns-in_default c).Start in rw c.header_byte.ensures (one_taken (start here) _ (fits here) _ (ap phase_of c.in-Header.is) c.requires.1)
+pub returns-in-Header : goal.returns-in-Header
+returns-in-Header c =
+    let here = (goal.at.returns-in-Header c).Start in rw c.header_byte.ensures (one_taken (start here) _ (fits here) _ (ap phase_of c.in-Header.is) c.requires.1)
 
 pub returns-in-Body : goal.returns-in-Body
 returns-in-Body c =

@@ -1,9 +1,7 @@
 -- `guid_defined_contents` meets its contract: the tests of a GUID-defined section's own fields.
-use Prim.Native.Nat.{ℕ}
-use mathlib.Core.Path.{◌≡◌, ◌∙◌}
+use mathlib.Core.Path.{◌∙◌}
 use native.Mathlib.Omega.{arith}
 use Rattle.numbers.proofs.LittleEndian.{le_two}
-use Rattle.sections.specs.Header.{data_offset}
 use Rattle.sections.proofs.header.Tests.{guid_204, guid_packed, guid_open}
 use borrow.Author.Rules.{rules}
 use Rattle.sections.proofs.header.Header.guid_defined_contents.Goals as goal

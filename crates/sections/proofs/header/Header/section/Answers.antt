@@ -1,10 +1,7 @@
 -- `section` meets its contract: by the type, what a holder's own fields say, or a leaf.
-use Prim.Native.Nat.{ℕ}
-use mathlib.Core.Path.{◌≡◌}
 use borrow.Author.Rules.{rules}
 use borrow.Author.Tests.{eq-eqb, ne_eqb}
 use Rattle.std.proofs.lemmas.Result.{err_from_is_err_and}
-use Rattle.sections.specs.Types.{type_info}
 use Rattle.sections.proofs.types.Rows.{least_compression, least_guid, not_holder, holds-compression, holds_guid}
 use Rattle.sections.proofs.header.Tests.{past_holder, past_leaf}
 use Rattle.sections.proofs.header.Header.section.Goals as goal

@@ -1,5 +1,0 @@
--- `fv::packed::store_longs` meets its contract: two stores in a row.
-use Rattle.fv.proofs.packed.store_longs.Goals as goal
-
-pub returns : goal.returns
-returns c = rw (c.store-2.ensures, c.store.ensures)
