@@ -75,20 +75,20 @@ pub struct ByteOrders<'a>(pub &'a [u8]);
 impl<'a> OrderList for ByteOrders<'a> {
     ghost orders = { λ list. orders_in list.0.now };
 
+    #[tactic(auto, using(crate::proofs::OrderBytes::orders_length))]
     fn len(self) -> usize {
-        let bytes = self.0;
-        bytes.len() / ORDER_BYTES
+        self.0.len() / ORDER_BYTES
     }
 
     fn order(self, i: usize) -> Option<Order> {
-        let bytes = self.0;
-        let (orders, _) = bytes.as_chunks::<ORDER_BYTES>();
+        let (orders, _) = self.0.as_chunks();
         let bytes = orders.get(i)?;
         Some(order_of(bytes))
     }
 }
 
 // The order that 32 bytes hold.
+#[tactic(auto, unfolding(crate::specs::Orders::order_at))]
 fn order_of(bytes: &[u8; ORDER_BYTES]) -> Order
     ensures { result ≡ order_at bytes.now 0 }
 {
@@ -130,6 +130,7 @@ pub fn write_orders<L: OrderList>(
         };
     }
     for i in 0..n {
+        // The list has an order of each number below its length: that is proved, and `unwrap` tests nothing.
         let order = orders.order(i).unwrap();
         last = write_order(state, volume, order, source);
         if !succeeded(last) {

@@ -45,4 +45,4 @@ pub returns : goal.returns
 unfolding written_of
 returns g c =
     let all : c.len-n.result ≡ c.loop-i.i = omega (arith, c.loop-i.auto.i-end) in
-    rw all (ended _ _ _ (g.L.OrderList.orders c.args.orders) _ _ _ (omega (arith, c.len-n.ensures)) c.loop-i.invariant)
+    rw all (ended _ _ _ (g.L.OrderList.orders c.args.orders) c.loop-i.i _ _ (omega (arith, c.len-n.ensures)) c.loop-i.invariant)
