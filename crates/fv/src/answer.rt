@@ -1,16 +1,5 @@
 // What a call answers, and the bytes that a caller lends for it.
-#![tactic(
-    auto,
-    unfolding(
-        crate::specs::Answer::answer_stored,
-        crate::specs::Answer::entry_words,
-        crate::specs::Answer::last_count,
-        common::specs::Answers::number_of,
-        common::specs::Answers::values_of,
-        block_service::specs::Service::moved_answer,
-        volume::specs::ExtendedEntry::entry_answer
-    )
-)]
+#![tactic(auto, unfolding(crate::specs::Answer::answer_stored, crate::specs::Answer::entry_words, crate::specs::Answer::last_count, common::specs::Answers::number_of, common::specs::Answers::values_of, block_service::specs::Service::moved_answer, volume::specs::ExtendedEntry::entry_answer))]
 
 ghost use Rattle.std.specs.Prelude.{◌≡◌, ◌≤◌, length, refl, Result, Ok, Err};
 ghost use Rattle.common.specs.Answers.{Answer, refused, number_of, values_of};

@@ -1,18 +1,6 @@
 // The calls on dependency expressions (document 02, k): reading and writing single opcodes, the test, and the evaluation against a table of installed firmware that the
 // caller lends as bytes.
-#![tactic(
-    auto,
-    unfolding(
-        crate::specs::Called::answer_call,
-        crate::specs::DependencyCalls::write_opcode_call,
-        crate::specs::DependencyCalls::evaluate_call,
-        crate::specs::DependencyCalls::validate_call,
-        common::specs::Refusals::first_refusal,
-        common::specs::Answers::number_of,
-        common::specs::Answers::values_of
-    ),
-    using(std::proofs::lemmas::Bool::Decides::nat_tests)
-)]
+#![tactic(auto, unfolding(crate::specs::Called::answer_call, crate::specs::DependencyCalls::write_opcode_call, crate::specs::DependencyCalls::evaluate_call, crate::specs::DependencyCalls::validate_call, common::specs::Refusals::first_refusal, common::specs::Answers::number_of, common::specs::Answers::values_of), using(std::proofs::lemmas::Bool::Decides::nat_tests))]
 
 ghost use Rattle.std.specs.Prelude.{[], ◌∷◌, ◌≡◌, ◌≤◌, length};
 ghost use Rattle.volume.specs.Header.{words_at};

@@ -1,21 +1,5 @@
 // The erase in two operations, from C: accepting a list, and carrying its job on. The job is 8 bytes that the caller lends, and may keep over a reboot.
-#![tactic(
-    auto,
-    unfolding(
-        crate::specs::JobCalls::accept_call,
-        crate::specs::JobCalls::carry_call,
-        crate::specs::JobCalls::job_stored,
-        block_service::specs::Service::accepted_answer,
-        block_service::specs::Service::progress_answer,
-        common::specs::Refusals::first_refusal,
-        common::specs::Answers::number_of,
-        common::specs::Answers::values_of
-    ),
-    using(
-        std::proofs::lemmas::Bool::Decides::nat_tests,
-        crate::proofs::packed::Packing::unpacked_front
-    )
-)]
+#![tactic(auto, unfolding(crate::specs::JobCalls::accept_call, crate::specs::JobCalls::carry_call, crate::specs::JobCalls::job_stored, block_service::specs::Service::accepted_answer, block_service::specs::Service::progress_answer, common::specs::Refusals::first_refusal, common::specs::Answers::number_of, common::specs::Answers::values_of), using(std::proofs::lemmas::Bool::Decides::nat_tests, crate::proofs::packed::Packing::unpacked_front))]
 
 ghost use Rattle.std.specs.Prelude.{[], ◌∷◌, ◌++◌, ◌≡◌, ◌≤◌, length, drop};
 ghost use Rattle.numbers.specs.LittleEndian.{le_bytes};

@@ -1,16 +1,5 @@
 // Many writes in one call, from C: the list of orders comes as bytes.
-#![tactic(
-    auto,
-    unfolding(
-        crate::specs::OrderCalls::write_list_call,
-        write_orders::specs::Orders::written_of,
-        common::specs::Refusals::first_refusal
-    ),
-    using(
-        std::proofs::lemmas::Bool::Decides::nat_tests,
-        crate::proofs::packed::Packing::unpacked_front
-    )
-)]
+#![tactic(auto, unfolding(crate::specs::OrderCalls::write_list_call, write_orders::specs::Orders::written_of, common::specs::Refusals::first_refusal), using(std::proofs::lemmas::Bool::Decides::nat_tests, crate::proofs::packed::Packing::unpacked_front))]
 
 ghost use Rattle.std.specs.Prelude.{[], ◌∷◌, ◌≡◌};
 ghost use Rattle.fv.specs.Called.{called};

@@ -1,15 +1,5 @@
 // The calls on section streams: searching, the first of a type, and appending.
-#![tactic(
-    auto,
-    unfolding(
-        crate::specs::Called::answer_call,
-        crate::specs::SectionCalls::append_call,
-        common::specs::Refusals::first_refusal,
-        common::specs::Answers::number_of,
-        common::specs::Answers::values_of
-    ),
-    using(std::proofs::lemmas::Bool::Decides::nat_tests)
-)]
+#![tactic(auto, unfolding(crate::specs::Called::answer_call, crate::specs::SectionCalls::append_call, common::specs::Refusals::first_refusal, common::specs::Answers::number_of, common::specs::Answers::values_of), using(std::proofs::lemmas::Bool::Decides::nat_tests))]
 
 ghost use Rattle.std.specs.Prelude.{[], ◌∷◌, ◌≡◌};
 ghost use Rattle.fv.specs.Called.{called};

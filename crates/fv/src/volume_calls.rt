@@ -1,24 +1,5 @@
 // The calls on volumes: opening, read, write, erase, and the entries of an extended header.
-#![tactic(
-    auto,
-    unfolding(
-        crate::specs::VolumeCalls::open_call,
-        crate::specs::VolumeCalls::state_after,
-        crate::specs::VolumeCalls::read_call,
-        crate::specs::VolumeCalls::write_call,
-        crate::specs::VolumeCalls::erase_call,
-        crate::specs::Called::answer_call,
-        volume::specs::Header::opening_of,
-        block_service::specs::Service::erased_answer,
-        common::specs::Refusals::first_refusal,
-        common::specs::Answers::number_of,
-        common::specs::Answers::values_of
-    ),
-    using(
-        std::proofs::lemmas::Bool::Decides::nat_tests,
-        crate::proofs::packed::Packing::unpacked_front
-    )
-)]
+#![tactic(auto, unfolding(crate::specs::VolumeCalls::open_call, crate::specs::VolumeCalls::state_after, crate::specs::VolumeCalls::read_call, crate::specs::VolumeCalls::write_call, crate::specs::VolumeCalls::erase_call, crate::specs::Called::answer_call, volume::specs::Header::opening_of, block_service::specs::Service::erased_answer, common::specs::Refusals::first_refusal, common::specs::Answers::number_of, common::specs::Answers::values_of), using(std::proofs::lemmas::Bool::Decides::nat_tests, crate::proofs::packed::Packing::unpacked_front))]
 
 ghost use Rattle.std.specs.Prelude.{[], ◌∷◌, ◌≡◌};
 ghost use Rattle.fv.specs.Called.{called};

@@ -1,17 +1,17 @@
 -- Laws of the answer's bytes: the stores that make them, the outcome of an answer, and the test of their number.
 use Prim.Native.Nat.{ℕ, ◌≤◌, ◌<◌}
-use mathlib.Core.Path.{◌≡◌, ◌∙◌}
+use mathlib.Core.Path.{◌≡◌}
 use mathlib.Core.List.{List, [], ◌∷◌, ◌++◌}
-use mathlib.Core.Option.{Option, none, some}
+use mathlib.Core.Option.{Option, some}
 use borrow.Author.Tests.{lt-ltb, le-ltb}
 use lib.Dec.{ltb}
 use lib.ListN.{length, drop, replicate}
 use lib.Seq.{sets}
-use Rattle.common.specs.Answers.{Answer, number_of, values_of}
+use Rattle.common.specs.Answers.{Answer}
 use Rattle.common.specs.Refusals.{Row, row, first_refusal}
-use Rattle.common.proofs.Refusals.{row_applies, row_passes, no_row}
+use Rattle.common.proofs.Refusals.{row_applies, row_passes}
 use Rattle.numbers.specs.LittleEndian.{le_bytes}
-use Rattle.fv.specs.Answer.{answer_bytes, answer_stored, two_stored}
+use Rattle.fv.specs.Answer.{answer_bytes, two_stored}
 use Rattle.fv.specs.Called.{called, answer_call}
 
 -- two numbers in 16 bytes, copied to the front of the room

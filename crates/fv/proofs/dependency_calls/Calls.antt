@@ -13,7 +13,6 @@ use Rattle.common.specs.Answers.{Answer, number_of, values_of}
 use Rattle.common.proofs.Refusals.{no_row}
 use Rattle.volume.specs.Header.{words_at}
 use Rattle.dependency.specs.Evaluation.{evaluate_of}
-use Rattle.dependency.specs.Opcodes.{wrote, write_opcode}
 use Rattle.fv.specs.Answer.{answer_bytes, answer_stored, few_answer}
 use Rattle.fv.specs.Called.{called}
 use Rattle.fv.specs.DependencyCalls.{guids_bytes, guids_in, versions_bytes, write_opcode_call, evaluate_call}

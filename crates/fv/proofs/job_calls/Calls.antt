@@ -11,7 +11,6 @@ use Rattle.common.specs.Answers.{refused, success, number_of, values_of}
 use Rattle.common.proofs.Refusals.{no_row}
 use Rattle.numbers.specs.LittleEndian.{le_bytes}
 use Rattle.numbers.proofs.LittleEndian.{le-le_bytes, length-le_bytes}
-use Rattle.volume.specs.declared.state.State.{State}
 use Rattle.block_service.specs.Erase.{list_words}
 use Rattle.block_service.specs.Service.{Result, buffer_of, result_of, step, erase_blocks, accept_erase, carry_erase}
 use Rattle.block_service.proofs.Theorems.{accept_as_erase, order_within, refused_changes_nothing, two_operations}

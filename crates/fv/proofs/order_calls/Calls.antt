@@ -9,10 +9,9 @@ use lib.ListN.{length}
 use Rattle.common.specs.Answers.{refused, success, number_of}
 use Rattle.common.proofs.Refusals.{no_row}
 use Rattle.volume.specs.State.{unlawful}
-use Rattle.block_service.specs.Service.{Result, moved_answer}
-use Rattle.write_orders.specs.Orders.{Batch, batch, order_bytes, write_orders, written_of, orders_in}
+use Rattle.block_service.specs.Service.{Result}
+use Rattle.write_orders.specs.Orders.{Batch, batch, order_bytes, write_orders, orders_in}
 use Rattle.write_orders.specs.declared.Order.{Order}
-use Rattle.write_orders.specs.declared.Written.{Written}
 use Rattle.write_orders.proofs.OrderBytes.{orders_length}
 use Rattle.write_orders.proofs.Theorems.{too_many, empty_list, order_111, first_refused}
 use Rattle.fv.specs.Answer.{answer_bytes, last_count, two_stored}

@@ -1,16 +1,12 @@
 -- Laws of appending from C, in the form in which the code meets them: bytes too few, and otherwise what the inner call came to.
-use Prim.Native.Nat.{ℕ, ◌≤◌, ◌<◌}
+use Prim.Native.Nat.{ℕ, ◌<◌}
 use mathlib.Core.Path.{◌≡◌}
 use mathlib.Core.List.{List, [], ◌∷◌}
-use mathlib.Core.Option.{none}
 use lib.ListN.{length}
-use Rattle.common.specs.Answers.{Answer, number_of, values_of}
-use Rattle.common.proofs.Refusals.{no_row}
-use Rattle.sections.specs.Append.{append_of, buffer_after}
-use Rattle.fv.specs.Answer.{answer_bytes, answer_stored}
+use Rattle.fv.specs.Answer.{answer_bytes}
 use Rattle.fv.specs.Called.{called}
-use Rattle.fv.specs.SectionCalls.{append_call, mode_of}
-use Rattle.fv.proofs.answer.Answers.{few, enough}
+use Rattle.fv.specs.SectionCalls.{append_call}
+use Rattle.fv.proofs.answer.Answers.{few}
 
 module _ (mode : ℕ) (buffer : List ℕ) (used section_type : ℕ) (body answer : List ℕ) where
   pub append_few : length answer < answer_bytes → called 5 (buffer ∷ answer ∷ []) ≡ append_call mode buffer used section_type body answer

@@ -1,18 +1,17 @@
 -- Laws of the calls on volumes, in the form in which the code meets them: bytes too few, and otherwise what the inner call came to.
 use Prim.Native.Nat.{ℕ, ◌≤◌, ◌<◌}
 use mathlib.Core.Path.{◌≡◌}
-use mathlib.Core.List.{List, [], ◌∷◌, ◌++◌}
+use mathlib.Core.List.{List, [], ◌∷◌}
 use mathlib.Core.Option.{none, some}
-use lib.ListN.{length, drop}
+use lib.ListN.{length}
 use Rattle.common.specs.Answers.{Answer, number_of, values_of}
 use Rattle.common.proofs.Refusals.{no_row}
 use Rattle.volume.specs.declared.state.State.{State}
-use Rattle.block_service.specs.Erase.{list_words}
-use Rattle.block_service.specs.Service.{result_of, step, read, write, erase_blocks}
+use Rattle.block_service.specs.Service.{result_of, step, read, write}
 use Rattle.fv.specs.Answer.{answer_bytes, answer_stored}
 use Rattle.fv.specs.Called.{called}
-use Rattle.fv.specs.Packed.{packed, unpacked, state_bytes}
-use Rattle.fv.specs.VolumeCalls.{open_call, read_call, write_call, erase_call, state_after}
+use Rattle.fv.specs.Packed.{unpacked, state_bytes}
+use Rattle.fv.specs.VolumeCalls.{open_call, read_call, write_call, erase_call}
 use Rattle.fv.proofs.answer.Answers.{few, enough}
 
 -- ---- opening

@@ -1,5 +1,5 @@
 -- `fv::packed::pack` meets its contract: the stores make the packed state, which is copied to the room.
-use Rattle.std.proofs.Common.{◌≡◌, ◌∙◌, sym, refl, length, take, replicate, length-take-le, arith, rules}
+use Rattle.std.proofs.Common.{◌≡◌, ◌∙◌, sym, refl, length, take, replicate, length-take-le, rules}
 use Rattle.fv.proofs.packed.Packing.{pack_stored, pack_done}
 use Rattle.fv.proofs.packed.pack.Goals as goal
 use Rattle.fv.proofs.packed.pack.Goals.{Start}

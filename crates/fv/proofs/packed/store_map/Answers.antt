@@ -1,5 +1,5 @@
 -- `fv::packed::store_map` meets its contract: what is left of the map's bytes to store makes the same as the whole.
-use Rattle.std.proofs.Common.{◌≡◌, ℕ, ◌+◌, ◌*◌, List, [], ◌++◌, drop, sym, refl, ap, ◌∙◌, arith}
+use Rattle.std.proofs.Common.{ℕ, ◌+◌, ◌*◌, List, [], ◌++◌, drop, sym, refl, ap, ◌∙◌, arith}
 use mathlib.Core.List.{append-nil}
 use Rattle.std.proofs.lemmas.List.Edits.{sets}
 use Rattle.volume.specs.HeaderWriter.{words_bytes}

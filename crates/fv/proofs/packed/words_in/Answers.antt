@@ -1,5 +1,5 @@
 -- `fv::packed::words_in` meets its contract: the words stored so far and those left make all of them.
-use Rattle.std.proofs.Common.{refl, sym, ◌∙◌, arith, rules}
+use Rattle.std.proofs.Common.{refl, sym, ◌∙◌, arith}
 use lib.ListN.{length-set, length-replicate}
 use Rattle.common.proofs.Lists.{fill_next, fill_done}
 use Rattle.volume.specs.Header.{words_at}
