@@ -142,6 +142,7 @@ pub fn write_orders<L: OrderList>(
 
 // The same with the first `used` orders of an array, for programs in Rattle. Refused with 2 where
 // `used` is more than 64. The array is copied once.
+// It stays beside `write_orders`, with its number of orders apart, since callers and the edit whole_array hold it.
 #[tactic(auto, unfolding(crate::specs::Orders::written_of, crate::specs::Orders::write_array, block_service::specs::Service::moved_answer))]
 pub fn write_order_array(
     state: &State,
