@@ -3,7 +3,7 @@ use Prim.Native.Nat.{ℕ}
 use mathlib.Core.List.{List, [], ◌∷◌}
 use mathlib.Core.Path.{◌≡◌, refl}
 use lib.ListN.{set, replicate}
-use Rattle.common.specs.Answers.{Answer, refused, success, short}
+use Rattle.common.specs.Answers.{refused, success, short}
 use Rattle.numbers.specs.LittleEndian.{le}
 use Rattle.volume.specs.declared.state.State.{State}
 use Rattle.block_service.specs.Service.{get_attributes, write, with_attributes, with_protected}

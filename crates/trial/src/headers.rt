@@ -133,11 +133,13 @@ pub(crate) fn entry_case(out: &impl Print, case: &[u8]) -> io::Result<()> {
     field(out, number(case, 3))?;
     let lent = prefix(&volume, number(case, 2) as usize);
     match ext_entry(lent, number(case, 3)) {
-        Ok(ExtEntry {
-            first,
-            size,
-            entry_type,
-        }) => fields(out, &[0, first as u64, size as u64, entry_type as u64])?,
+        Ok(
+            ExtEntry {
+                first,
+                size,
+                entry_type,
+            },
+        ) => fields(out, &[0, first as u64, size as u64, entry_type as u64])?,
         Err(refusal) => refusal_field(out, refusal)?,
     }
     end(out)

@@ -23,8 +23,17 @@ const SCRIPT: usize = 1376256;
 
 fn main(rt: HostRuntime) -> io::Result<()> {
     let mut input = [0u8; SCRIPT];
-    let n = read_full(&mut rt.reader(), &mut input)?;
-    run_script(&rt, &input[..n])
+    run_input(&rt, &mut input)
+}
+
+// A proof writes out an array of the function's own, byte by byte; of one that is lent it takes the length alone, so that it becomes a slice here.
+fn run_input(rt: &(impl Input + Print), input: &mut [u8; SCRIPT]) -> io::Result<()> {
+    run_read(rt, input)
+}
+
+fn run_read(rt: &(impl Input + Print), input: &mut [u8]) -> io::Result<()> {
+    let n = read_full(&mut rt.reader(), input)?;
+    run_script(rt, &input[..n])
 }
 
 // A script is a list: the number of cases, then the cases.

@@ -23,7 +23,15 @@ pub(crate) fn receive_case(out: &impl Print, case: &[u8]) -> io::Result<()> {
     let section_type = byte_at(item(case, 3), 0);
     let total = number(case, 5);
     begin(out, case, called(mode, "receive", "receive pi"))?;
-    fields(out, &[section_type as u64, number(case, 4), total, bytes.len() as u64])?;
+    fields(
+        out,
+        &[
+            section_type as u64,
+            number(case, 4),
+            total,
+            bytes.len() as u64,
+        ],
+    )?;
     let announced = Receiver::announce(
         mode_of(mode),
         section_type,
@@ -87,7 +95,12 @@ fn outcome_fields(out: &impl Print, outcome: Outcome) -> io::Result<()> {
     match outcome.answer {
         Ok(received) => fields(
             out,
-            &[0, received.count, received.part.first as u64, received.part.end as u64],
+            &[
+                0,
+                received.count,
+                received.part.first as u64,
+                received.part.end as u64,
+            ],
         ),
         Err(refusal) => refusal_field(out, refusal),
     }

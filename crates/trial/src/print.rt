@@ -19,7 +19,7 @@ pub(crate) fn end(out: &impl Print) -> io::Result<()> {
     println!(out; "")
 }
 
-pub(crate) fn field(out: &impl Print, x: impl Display) -> io::Result<()> {
+pub(crate) fn field(out: &impl Print, x: impl Display + Drop) -> io::Result<()> {
     print!(out; "\t{x}")
 }
 

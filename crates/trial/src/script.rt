@@ -1,5 +1,7 @@
 // Reading the script: lists of items, each item an 8-byte length and then its bytes. An item may be a
 // list in turn. Whatever the bytes are, an item that is not there is empty.
+ghost use Rattle.std.specs.Prelude.{◌<◌};
+
 use numbers::{store_bytes, u16_at, u64_at};
 
 // The k-th item of a list.
@@ -18,9 +20,7 @@ pub(crate) fn number(list: &[u8], k: usize) -> u64 {
 
 // A stretch of bytes by its place and length; empty where it does not lie within.
 pub(crate) fn part<'a>(s: &'a [u8], at: usize, len: usize) -> &'a [u8] {
-    s.get(at..)
-        .and_then(|rest| rest.get(..len))
-        .unwrap_or(&[])
+    s.get(at..).and_then(|rest| rest.get(..len)).unwrap_or(&[])
 }
 
 // The first bytes of a slice, or all of it where it has no more.
@@ -41,7 +41,15 @@ pub(crate) fn prepare(own: &[u8], pattern: &[u8], out: &mut [u8]) {
 }
 
 // Stores the words of an item, each of `width` bytes, at the start of a room. The rest of it stays.
-pub(crate) fn words_of<T>(src: &[u8], width: usize, number: impl Fn(&[u8]) -> T, out: &mut [T]) {
+pub(crate) fn words_of<T: Drop, F: Fn(&[u8]) -> T>(
+    src: &[u8],
+    width: usize,
+    number: F,
+    out: &mut [T],
+)
+    requires some { 0 < width }
+    requires callable { F.IsAlwaysCallable number }
+{
     for (word, bytes) in out.iter_mut().zip(src.chunks(width)) {
         *word = number(bytes);
     }

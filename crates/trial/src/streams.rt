@@ -70,11 +70,7 @@ pub(crate) fn first_case(out: &impl Print, case: &[u8]) -> io::Result<()> {
 }
 
 // The answer, the part's first bytes.
-fn found_fields(
-    out: &impl Print,
-    stream: &[u8],
-    answer: Result<Part, Refusal>,
-) -> io::Result<()> {
+fn found_fields(out: &impl Print, stream: &[u8], answer: Result<Part, Refusal>) -> io::Result<()> {
     match answer {
         Ok(Part { first, end }) => {
             fields(out, &[0, first as u64, end as u64])?;
