@@ -72,7 +72,8 @@ pub fn carry_erase<L: EraseList>(
     carry_good(state.map_words(), volume, list, value, reached, job, stores)
 }
 
-// Carries a job of a good list on, which reaches a protected block or not: counts the bytes of the order, judges the job, and stores.
+// Carries a job of a good list on, which reaches a protected block or not: counts the bytes of the order, judges the job, and stores. Its seven
+// parameters are what `carry_erase` has in hand at its one call.
 fn carry_good<L: EraseList>(
     words: &[u32],
     volume: &mut [u8],

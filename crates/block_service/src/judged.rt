@@ -25,7 +25,7 @@ pub fn write_refusal(state: &State, volume_len: u64) -> Result<(), Refusal>
 // A write by a state's attributes, first protected block and the words of its map entries. Neither 111 nor whether writes are enabled is
 // asked: where `write_refusal` allows a write to the volume it is that write, refused with 2 (no such block) or 15 (the block is
 // protected). By other parts 5 comes first, where the map's entries up to the block's, or all where none holds it, have more bytes than
-// are lent. A refusal changes no byte.
+// are lent. A refusal changes no byte. The parts come singly, and not as a state: none of its other fields is asked, and any parts are answered.
 #[tactic(auto, unfolding(crate::specs::Judged::judged_write, crate::specs::Judged::judged_refusals, crate::specs::Access::count_moved, crate::specs::Blocks::start_of, crate::specs::Blocks::length_of, crate::specs::Service::moved_answer, common::specs::Refusals::first_refusal))]
 pub fn write_judged(
     attributes: u32,

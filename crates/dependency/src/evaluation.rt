@@ -58,6 +58,7 @@ fn run(expression: &[u8], installed: &Installed) -> Result<bool, Refusal>
         depth: 0,
     };
     let mut rest = expression;
+    // No `for`: each turn goes on by the opcode's own width.
     loop {
         let read = read_opcode(rest)?;
         if read.opcode == Opcode::End {

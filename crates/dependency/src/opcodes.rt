@@ -31,8 +31,8 @@ pub enum Opcode {
 impl Opcode {
     ghost use Rattle.dependency.specs.Opcodes.{code_of, row_of, width};
 
-    #[tactic(auto, unfolding(crate::specs::Opcodes::row_of, crate::specs::Opcodes::row_among, crate::specs::Opcodes::opcodes, crate::specs::Opcodes::width))]
     // The length of the operand at the start of a byte string; of a text without its zero, one more than there are bytes.
+    #[tactic(auto, unfolding(crate::specs::Opcodes::row_of, crate::specs::Opcodes::row_among, crate::specs::Opcodes::opcodes, crate::specs::Opcodes::width))]
     fn operand_width(self, s: &[u8]) -> usize
         ensures { result ≡ width (row_of (code_of self)).operand s.now }
     {

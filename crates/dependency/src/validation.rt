@@ -34,6 +34,7 @@ pub fn validate(expression: &[u8]) -> Result<(), Refusal>
         depth: 0,
     };
     let mut rest = expression;
+    // No `for`: each turn goes on by the opcode's own width.
     loop {
         let read = read_opcode(rest)?;
         if read.opcode == Opcode::End {

@@ -93,7 +93,8 @@ fn store_pair(at: usize, x: u64, y: u64, s: &mut [u8])
     numbers::store(s, at + 4, 4, y);
 }
 
-// Stores a map's words from byte 48 on.
+// Stores a map's words from byte 48 on. A header has them at another place, with a closing pair (`store_map` of volume): one function for both would
+// want the place's bound from its callers.
 fn store_map(map: &[u32], s: &mut [u8])
     requires { length map.now ≡ 64 }
     ensures { s.new ≡ sets s.old packed_map_start (words_bytes map.now) }

@@ -58,7 +58,7 @@ pub fn fv_append(
     give(appended, answer)
 }
 
-// The mode that a number stands for.
+// The mode that a number stands for. No `From`: that any other number than 0 is PI is the C interface's rule, and not the type's.
 #[tactic(auto, unfolding(crate::specs::SectionCalls::mode_of))]
 fn mode_of(mode: u32) -> Mode
     ensures { result ≡ mode_of mode }

@@ -58,6 +58,7 @@ impl Text {
         let mut digits = [0u8; MAX_DIGITS];
         let mut start = MAX_DIGITS - 1;
         let mut rest = x;
+        // No `for`: how many digits a number has is seen at its end. No `write!`: std's contract says nothing of when it fails.
         while 10 <= rest {
             digits[start] = b'0' + (rest % 10) as u8;
             start -= 1;

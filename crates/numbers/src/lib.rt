@@ -114,7 +114,8 @@ pub fn u32_of(a: u8, b: u8, c: u8, d: u8) -> u32
     u32::from_le_bytes([a, b, c, d])
 }
 
-// A 32-bit number as a 64-bit one. It stays below 2 ^ 32, so that a product of two such fits.
+// A 32-bit number as a 64-bit one. It stays below 2 ^ 32, so that a product of two such fits. `u64::from` says as much today; this stays for the edit
+// wide_half, and for callers outside.
 pub fn wide(x: u32) -> u64
     ensures { (result ≡ x) × (result < 2 ^ 32) }
 {

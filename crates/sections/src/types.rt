@@ -2,6 +2,7 @@
 ghost use Rattle.std.specs.Prelude.{◌≡◌};
 ghost use Rattle.sections.specs.Types.{plain_leaf, type_info};
 
+// 002's numbers. They stay numbers: any byte may be asked for, and document 01 wants a match on the byte in which an unknown one is a plain leaf.
 pub const SECTION_COMPRESSION: u8 = 0x01;
 
 pub const SECTION_GUID_DEFINED: u8 = 0x02;

@@ -25,7 +25,7 @@ pub(crate) fn search_case(out: &impl Print, case: &[u8]) -> io::Result<()> {
     end(out)
 }
 
-// Mode 0, which a case without one has, is Framework, and any other PI.
+// Mode 0, which a case without one has, is Framework, and any other PI: the script's rule, and no `From` of the type's.
 pub(crate) fn mode_of(mode: u64) -> Mode {
     if mode == 0 { Mode::Framework } else { Mode::Pi }
 }

@@ -40,6 +40,7 @@ fn entry_from(s: &[u8], from: usize, end: usize, number: u64) -> Result<ExtEntry
 {
     let mut at = from;
     let mut left = number;
+    // No `for`: each turn goes on by the entry's own size.
     while at < end {
         let size = numbers::u16_at(s, at);
         if left == 0 {

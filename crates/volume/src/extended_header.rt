@@ -54,6 +54,7 @@ fn entries_fault(s: &[u8], from: usize, end: usize) -> bool
     ensures { result ≡ entries_faulty (entries_from s.now from end) }
 {
     let mut at = from;
+    // No `for`: each turn goes on by the entry's own size. `entry_from` walks the same entries and tests none: an iterator would have to test each again.
     while at < end {
         let size = usize::from(numbers::u16_at(s, at));
         if size < SHORTEST_ENTRY || end - at < size {

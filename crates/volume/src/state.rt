@@ -7,7 +7,8 @@ use crate::block_map::{MAX_ENTRIES, all_zero, count_blocks, map_fault};
 // What a volume's header said when it was opened, and where the volume is mapped. The attributes
 // are what document 01 calls the settings. The edition is the header's revision, 1 or 2. The block map is the first `entries` pairs of `map`, each a
 // block count and a block length; the rest of `map` is zero. Blocks from `protected` on are neither written nor erased; where none is protected it is
-// the number of blocks, as opening leaves it (document 02's mark).
+// the number of blocks, as opening leaves it (document 02's mark). Any values may be given, since the calls test the state (111): so the edition is a
+// number, and the map stays 64 words, as the definitions and the packed state have it.
 #[derive(Clone, Copy, Debug, PartialEq, Eq)]
 pub struct State {
     pub guid: [u8; 16],
