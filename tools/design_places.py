@@ -79,7 +79,7 @@ POINTS = {
     "5a functions of seven parameters and more": lambda: ((p, l, f"{m['name']} ({parameters(m['args'])})") for p, l, m in functions() if parameters(m["args"]) > 6),
     "5b a fact that three or more functions require": facts,
     "6 an array with a length or another array beside it, or in a struct's place": lambda: lines(r"^ *(pub )?(lefts|pads|versions|header|values|kinds|seek|tail|map|array|marks): (&mut |&)?(\[|u64)|(, |\()(lefts|pads|versions|header|values|kinds|seek|tail|map|array|marks): (&mut |&)?(\[|u64)"),
-    "7 a switch on which step to run": lambda: lines(r"match called|if stop|stop: u64|GOES_ON,|STOPS\)"),
+    "7 a switch on which step to run": lambda: lines(r"match called|match number\(|if (self\.)?stop|stop: u64|GOES_ON,|STOPS\)"),
 }
 
 

@@ -53,7 +53,7 @@ pub(crate) fn find_place(words: &[u32], lent: usize, block: u64) -> Result<Block
 }
 
 // The number of blocks of a place's length with which the entries after its own begin: those of the entries before the first
-// of another length.
+// of another length. The bound of the words is asked here and by what calls this: words are lent as a slice, which holds no invariant.
 #[tactic(auto, using(crate::proofs::blocks::Runs::equal_turns))]
 pub(crate) fn equal_blocks(words: &[u32], place: &BlockPlace) -> usize
     requires in_bounds { 2 * place.now.entry + 1 < length words.now }

@@ -93,7 +93,8 @@ fn mark_front<L: EraseList>(marks: &mut Marks, list: L, pairs: usize)
 }
 
 // A walk over the blocks of a map that a list names: it stores the portion's bytes of them in the volume, and `at` is the number of the
-// next byte in the order.
+// next byte in the order. Each method says that the words, the portion and the volume are the old ones: what a struct that holds a lent slice
+// must say of it, and no invariant, which speaks of one moment.
 #[derive(Drop)]
 struct Walk<'a> {
     words: &'a [u32],

@@ -73,7 +73,7 @@ pub fn carry_erase<L: EraseList>(
 }
 
 // Carries a job of a good list on, which reaches a protected block or not: counts the bytes of the order, judges the job, and stores. Its seven
-// parameters are what `carry_erase` has in hand at its one call.
+// parameters meet at its one call; a struct of them would be made there, and taken apart here.
 fn carry_good<L: EraseList>(
     words: &[u32],
     volume: &mut [u8],

@@ -45,7 +45,7 @@ impl Marks {
         }
     }
 
-    // How many blocks from block i on, not past block e, one look finds marked, or where `want` is false not marked: 64 that fill a word, 1, or none.
+    // How many blocks from block i on, not past block e, one look finds marked, or where `want` is false not marked: 64 that fill a word, 1, or 0.
     fn alike_step(&self, i: usize, e: usize, want: bool) -> usize
         requires { (i < e) × (e ≤ 65536) }
         ensures { (result ≤ e - i) × ((x : ℕ) → i ≤ x → x < i + result → marked self.now.words x ≡ want) × (result ≡ 0 → marked self.now.words i ≡ not want) }

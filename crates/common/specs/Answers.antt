@@ -1,5 +1,5 @@
 -- Answers. Document 01 gives every answer a number: 0 for success, 4 for short, and a refusal's own. What a call answers is defined as
--- such an answer with the values that it carries; each enum of the code has a definition that gives the answer of each of its cases.
+-- such an answer with the values that it carries; what a call returns has a definition that gives the answer of each of its cases.
 use Rattle.std.specs.Prelude.{ℕ, List, []}
 use Rattle.std.proofs.Math.Option.{Option, none, some}
 

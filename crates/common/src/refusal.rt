@@ -71,7 +71,7 @@ impl fmt::Display for Refusal {
             Refusal::WrongAttributes => "the attributes break a rule",
             Refusal::VolumeCut => "the volume is longer than the bytes lent",
             Refusal::UnalignedBase => "the base address is not a multiple of eight",
-            Refusal::UnlawfulState => "the state is none that opening answers",
+            Refusal::UnlawfulState => "the state is none that opening or a call leaves",
             Refusal::WrongExtendedHeader => "the extended header is at fault",
             Refusal::SectionCut => "the header of a section is cut off",
             Refusal::SectionTooShort => "a section is shorter than its type allows",

@@ -16,6 +16,7 @@ use common::Refusal;
 const ROWS: usize = 16;
 
 // The values on the stack, and how many they are. The kinds are not kept: a version is itself, and a truth is 0 or another number.
+// An array with a depth, since the project uses no heap.
 #[derive(Drop)]
 struct Values {
     values: [u32; 32],
@@ -25,7 +26,8 @@ struct Values {
 
 // Whether an expression holds of the installed firmware: the first `used` rows of the table, with the versions beside them; of a GUID
 // that stands there twice the first row counts. Refused with 2 (a used number over sixteen), 301 to 305 as by `validate`, 14 (a
-// GUID of the expression is in no used row). One pass for the test and one for the values.
+// GUID of the expression is in no used row). One pass for the test and one for the values. The table comes as document 01 has it: sixteen
+// byte arrays by value, with the used number beside them.
 #[tactic(auto, using(crate::proofs::evaluation::Runs::evaluate_used, crate::proofs::evaluation::Runs::evaluate_err, crate::proofs::evaluation::Runs::evaluate_run, crate::proofs::evaluation::Runs::valid_none), unfolding(crate::specs::Installed::installed_in))]
 pub fn evaluate(
     expression: &[u8],

@@ -1,4 +1,4 @@
-// The installed firmware: rows, each a GUID of sixteen bytes, and a version for each.
+// The installed firmware: rows, each a GUID of sixteen bytes, and a version for each: two slices, as document 01 and C lend them.
 ghost use Rattle.std.specs.Prelude.{◌≡◌};
 
 #[derive(Clone, Copy)]

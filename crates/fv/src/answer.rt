@@ -45,7 +45,8 @@ impl Outcome {
         }
     }
 
-    // Stores the two numbers at the start of an answer's bytes, and gives the number. What lies behind stays.
+    // Stores the two numbers at the start of an answer's bytes, and gives the number. What lies behind stays. The bytes are C's slice, whose length each call
+    // has tested. `first_chunk_mut` and an array in its place were tried: the last goal of each call that answers did not close.
     fn store(self, answer: &mut [u8]) -> u32
         requires { answer_bytes ≤ length answer.old }
         ensures number { result ≡ self.number }
@@ -112,7 +113,7 @@ impl Answered for Part {
     }
 }
 
-// A count, as of the bytes used or written: the count and 0.
+// A count, as of the bytes used or written: the count and 0. It has one answer, whichever call counts; here the sections' definition stands for it.
 impl Answered for usize {
     ghost answer = { appended_answer };
 

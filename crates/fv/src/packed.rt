@@ -42,7 +42,7 @@ pub(crate) fn unpack(s: &[u8; STATE_BYTES]) -> State
     }
 }
 
-// The GUID in bytes 0 to 15.
+// The GUID in bytes 0 to 15. Volume's `guid_at` reads a header's, from byte 16: the two are two lines each.
 pub(crate) fn guid_in(s: &[u8]) -> [u8; 16]
     requires { 16 ≤ length s.now }
     ensures { result ≡ take 16 s.now }
@@ -93,8 +93,8 @@ fn store_pair(at: usize, x: u64, y: u64, s: &mut [u8])
     numbers::store(s, at + 4, 4, y);
 }
 
-// Stores a map's words from byte 48 on. A header has them at another place, with a closing pair (`store_map` of volume): one function for both would
-// want the place's bound from its callers.
+// Stores a map's words from byte 48 on. A header has them at another place, with a closing pair (`store_map` of volume). One function for both would be
+// public, and no public function asks its callers for anything (the bound of the place).
 fn store_map(map: &[u32], s: &mut [u8])
     requires { length map.now ≡ 64 }
     ensures { s.new ≡ sets s.old packed_map_start (words_bytes map.now) }

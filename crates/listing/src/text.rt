@@ -6,7 +6,8 @@ pub(crate) const MAX_LISTING: usize = 2214;
 // The most digits of a number of 64 bits.
 const MAX_DIGITS: usize = 20;
 
-// A text of at most MAX_LISTING bytes, the first `len` of the buffer: the project uses no heap.
+// A text of at most MAX_LISTING bytes, the first `len` of the buffer: the project uses no heap. What is appended must fit: that is asked of both, and an
+// invariant of the length alone would not say it.
 #[derive(Drop)]
 pub(crate) struct Text {
     bytes: [u8; MAX_LISTING],

@@ -86,7 +86,7 @@ pub fn u32_at(s: &[u8], at: usize) -> u32
     u32_of(a, b, c, d)
 }
 
-// The 64-bit number at a place.
+// The 64-bit number at a place. Of two halves, and not by `from_le_bytes`: the edit u64_halves_overlap holds the form.
 #[tactic(auto, unfolding(crate::specs::LittleEndian::le))]
 pub fn u64_at(s: &[u8], at: usize) -> u64
     ensures { result ≡ le 8 s.now at }
@@ -122,7 +122,8 @@ pub fn wide(x: u32) -> u64
     u64::from(x)
 }
 
-// Stores the lowest `width` bytes of x, the lowest first, from a place on. Every other byte stays.
+// Stores the lowest `width` bytes of x, the lowest first, from a place on. Every other byte stays. Not by `to_le_bytes`: the width is any number, also
+// past 8.
 pub fn store(s: &mut [u8], at: usize, width: usize, x: u64)
     ensures { s.new ≡ sets s.old at (le_bytes width x) }
 {

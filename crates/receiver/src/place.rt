@@ -35,7 +35,8 @@ pub struct Level {
 // `at` is a byte of the file and `left` the bytes from there to the end of the stream that it is in: the
 // first byte of the section whose header comes next; in a body, of its contents, a stream that is empty
 // where they are not searched; in padding, of what follows it. `levels` has what follows each of the
-// `depth` sections that are entered.
+// `depth` sections that are entered: an array with a depth, since the project uses no heap. That the depth is at most 8 is asked below and
+// is no invariant: the fields are public, and a receiver of any depth is answered (`is_sound`).
 #[derive(Clone, Copy, Debug, PartialEq, Eq)]
 pub struct Place {
     pub phase: Phase,

@@ -15,7 +15,7 @@ use sections::partial::{LONGEST_HEADER, own_fields, read_partial};
 use sections::search::Part;
 
 // The state between portions: what is wanted, what was met, where it is in the file, and the bytes that
-// came of a header that is not whole yet, zero behind them.
+// came of a header that is not whole yet, zero behind them: an array, and the phase says how many, since the project uses no heap.
 #[derive(Clone, Copy, Debug, PartialEq, Eq)]
 pub struct Receiver {
     pub mode: Mode,
@@ -150,8 +150,8 @@ impl Receiver {
 
     // Takes the first of these bytes, as far as they are taken at once, and answers how many: a header
     // where 28 bytes are there, with what is there of the body behind it, or one byte of a header; a body,
-    // or what is there of it; one byte of padding; all that does not matter. It and what it calls are
-    // marked to be compiled into `receive`: a section goes through memory at each call that is left.
+    // or what is there of it; one byte of padding; all that does not matter. It and most of what it calls
+    // are marked to be compiled into `receive`: a section goes through memory at each call that is left.
     #[inline(always)]
     fn step(&mut self, bytes: &[u8]) -> usize
         requires { (sound (receiver_of self.old) ≡ true) × (0 < length bytes.now) }

@@ -193,7 +193,8 @@ impl Header {
         Ok(self)
     }
 
-    // What a number of bytes from a section's first byte on becomes that counts a header of 4 bytes.
+    // What a number of bytes from a section's first byte on becomes that counts a header of 4 bytes. The bounds of the length are in `Lies`, which says
+    // them with where the header lies; a ghost field of them would say them twice.
     fn grown(&self, n: usize) -> usize
         requires { (4 ≤ self.now.length) × (self.now.length ≤ 8) × (n < 2 ^ 63) }
         ensures { result ≡ grown self.now.length n }

@@ -39,7 +39,7 @@ pub fn search(mode: Mode, stream: &[u8], section_type: u8, instance: u64) -> Res
 // The first section of a type on the walk, without walking the rest: what comes after its own header
 // is not read, neither its children nor its padding. The answer is its part; or the fault that comes
 // before it or is its own; or, where no section has the type, any fault, and else NotFound. Any byte may
-// be asked for. One pass, up to that section.
+// be asked for. One pass, up to that section. Two public calls over one `sought`.
 #[tactic(auto, using(crate::proofs::walk::Carried::run_first))]
 pub fn search_first(mode: Mode, stream: &[u8], section_type: u8) -> Result<Part, Refusal>
     ensures { found_answer result ≡ search_first_of mode stream.now section_type }

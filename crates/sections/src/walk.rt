@@ -20,7 +20,8 @@ pub(crate) enum Walk {
 }
 
 // The section that a walk looks for: one of a type that has `left` sections of that type before it, and
-// whether the walk stops there. `found` is its part, once it is met.
+// whether the walk stops there: one word, asked at that section alone. A closure in its place would hold `left` and `found` through the
+// recursion, and its contract would be that of `visit`. `found` is its part, once it is met.
 #[derive(Clone, Copy, Debug, PartialEq, Eq)]
 pub(crate) struct Wanted {
     pub(crate) section_type: u8,

@@ -1,6 +1,7 @@
 // The rules of setting the settings, by edition: which bits may change, what a lock keeps, and which capability a change needs.
 //
-// Every public function answers every input and has no `requires`.
+// Every public function answers every input and has no `requires`. Edition and settings come as numbers, since a state may hold any (`volume::State`);
+// the three calls of one rule each are as docs/API.md names them.
 #![tactic(auto)]
 
 ghost use Rattle.std.specs.Prelude.{not, ◌&&◌, ◌≡◌};

@@ -68,7 +68,7 @@ fn run(
     Ok(())
 }
 
-// A call is a list: which, and its arguments.
+// A call is a list: which, by a number of the script's, and its arguments.
 fn one_call(
     out: &impl Print,
     case: &[u8],

@@ -44,7 +44,7 @@ fn run_script(out: &impl Print, script: &[u8]) -> io::Result<()> {
     Ok(())
 }
 
-// A case is a list: its name, what is called, and the arguments.
+// A case is a list: its name, what is called, and the arguments. The script names what is called by a number.
 fn one_case(out: &impl Print, case: &[u8]) -> io::Result<()> {
     match number(case, 1) {
         0 => open_case(out, case),

@@ -50,7 +50,7 @@ pub fn is_set(attributes: u32, bit: u32) -> bool
     bit != 0 && attributes / bit % 2 == 1
 }
 
-// Whether a header's revision is none of the editions.
+// Whether a header's revision is none of the editions. A state may hold any number as its edition (111), so that it is no enum here.
 #[tactic(auto, unfolding(crate::specs::Attributes::known_edition), using(std::proofs::lemmas::Bool::Decides::nat_tests))]
 pub(crate) fn edition_fault(edition: u32) -> bool
     ensures { result ≡ not (known_edition edition) }
