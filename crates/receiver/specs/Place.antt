@@ -1,6 +1,5 @@
 -- Where in the file a receiver is, and what comes next there.
 use Rattle.std.specs.Prelude.{ℕ, zero, suc, ◌+◌, ◌-◌, cond, List, map, ◌==◌, nat_le, nat_lt, slice_index, slice_index_or, slice_set}
-use Rattle.common.specs.Refusal.{number}
 use Rattle.sections.specs.Types.{common_header}
 use Rattle.sections.specs.Walk.{aligned}
 use Rattle.receiver.specs.Tally.{wrapped}
@@ -32,14 +31,14 @@ pub record Place : Type 0 where
 abbrev pub placed : Phase → (at left depth : ℕ) → (lefts pads : List ℕ) → Place
 placed phase at left depth lefts pads = record { phase = phase; at = at; left = left; depth = depth; lefts = lefts; pads = pads }
 
--- what the code's enum and struct have, whose faults are refusals, and whose levels are structs
+-- what the code's enum and struct have, whose levels are structs
 abbrev pub phase_of : Code.Phase → Phase
 phase_of (P.Header have) = Header have
 phase_of (P.Body n) = Body n
 phase_of (P.Padding n) = Padding n
 phase_of P.Complete = Complete
 phase_of P.Exceeded = Exceeded
-phase_of (P.Refused refusal) = Refused (number refusal)
+phase_of (P.Refused n) = Refused n
 
 abbrev pub lefts_of : List Level → List ℕ
 lefts_of levels = map (λ (l : Level). l.left) levels

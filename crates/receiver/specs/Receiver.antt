@@ -166,9 +166,9 @@ unfoldable pub finish_of : Receiver → Answer
 finish_of r = finish_at r.place.phase r.tally
 
 -- what the code's finish answers
-abbrev pub received_answer : Result Received Refusal → Answer
+abbrev pub received_answer : Result Received ℕ → Answer
 received_answer (Ok received) = success (received.count ∷ received.part.first ∷ received.part.end ∷ [])
-received_answer (Err refusal) = Answers.refused (number refusal)
+received_answer (Err n) = Answers.refused n
 
 -- the fault that was found, or 0
 abbrev pub found_in : Phase → ℕ
@@ -183,6 +183,6 @@ found_in (Refused n) = n
 unfoldable pub fault_of : Receiver → ℕ
 fault_of r = found_in r.place.phase
 
-abbrev pub fault_answer : Option Refusal → ℕ
+abbrev pub fault_answer : Option ℕ → ℕ
 fault_answer None = 0
-fault_answer (Some refusal) = number refusal
+fault_answer (Some n) = n

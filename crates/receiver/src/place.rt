@@ -14,7 +14,8 @@ pub const LEVELS: usize = 8;
 
 // What comes next: the rest of a section's header, of which so many bytes are there; so many bytes up to
 // a section's contents or, where they are not searched, its end; so many bytes of padding; nothing; more
-// bytes than were announced came; or a fault was found, and what comes does not matter.
+// bytes than were announced came; or a fault was found, and what comes does not matter. The fault is a
+// number and no `Refusal`: a caller may make a receiver with any, and the finish answers it.
 #[derive(Clone, Copy, Debug, PartialEq, Eq)]
 pub enum Phase {
     Header(usize),
@@ -22,7 +23,7 @@ pub enum Phase {
     Padding(usize),
     Complete,
     Exceeded,
-    Refused(Refusal),
+    Refused(u16),
 }
 
 // What follows a section in the stream that holds it: padding, and the bytes behind that.
@@ -71,7 +72,7 @@ impl Place {
             }
         }
         self.phase = if self.left < COMMON_HEADER {
-            Phase::Refused(Refusal::SectionCut)
+            Phase::Refused(Refusal::SectionCut.number())
         } else {
             Phase::Header(0)
         };
@@ -126,7 +127,7 @@ impl Place {
         ensures { place_of self.new ≡ padding_step (place_of self.old) n byte }
     {
         if byte != 0 {
-            self.phase = Phase::Refused(Refusal::NonzeroPadding);
+            self.phase = Phase::Refused(Refusal::NonzeroPadding.number());
         } else if n <= 1 {
             self.arrive();
         } else {

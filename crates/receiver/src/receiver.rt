@@ -60,7 +60,7 @@ impl Receiver {
         ensures { receiver_of result ≡ refused_by (number refusal) }
     {
         let mut new = Receiver::begun(Mode::Framework, 0, 0, 0);
-        new.place.phase = Phase::Refused(refusal);
+        new.place.phase = Phase::Refused(refusal.number());
         new
     }
 
@@ -82,33 +82,33 @@ impl Receiver {
     }
 
     // Ends the file: the number of its sections with the part of the one wanted; or the fault that was
-    // found first, 208 where more or fewer bytes came than were announced, or 14.
+    // found first, 208 where more or fewer bytes came than were announced, or 14. A fault is a number, as in `Phase`.
     #[tactic(auto, unfolding(crate::specs::Receiver::finish_of, crate::specs::Receiver::tally_answer))]
-    pub fn finish(&self) -> Result<Received, Refusal>
+    pub fn finish(&self) -> Result<Received, u16>
         ensures { received_answer result ≡ finish_of (receiver_of self.now) }
     {
         match self.place.phase {
             Phase::Header(_) | Phase::Body(_) | Phase::Padding(_) | Phase::Exceeded => Err(
-                Refusal::WrongTotal,
+                Refusal::WrongTotal.number(),
             ),
             Phase::Complete => {
-                let part = self.tally.part.ok_or(Refusal::NotFound)?;
+                let part = self.tally.part.ok_or(Refusal::NotFound.number())?;
                 Ok(Received {
                     count: self.tally.count,
                     part,
                 })
             }
-            Phase::Refused(refusal) => Err(refusal),
+            Phase::Refused(fault) => Err(fault),
         }
     }
 
     // The fault that was found so far: once there is one, the finish answers it, whatever comes.
     #[tactic(auto, unfolding(crate::specs::Receiver::fault_of))]
-    pub fn fault(&self) -> Option<Refusal>
+    pub fn fault(&self) -> Option<u16>
         ensures { fault_answer result ≡ fault_of (receiver_of self.now) }
     {
         match self.place.phase {
-            Phase::Refused(refusal) => Some(refusal),
+            Phase::Refused(fault) => Some(fault),
             _ => None,
         }
     }
@@ -232,7 +232,7 @@ impl Receiver {
         ensures { receiver_of self.new ≡ refused_of (receiver_of self.old) (number refusal) }
     {
         self.header = [0; LONGEST_HEADER];
-        self.place.phase = Phase::Refused(refusal);
+        self.place.phase = Phase::Refused(refusal.number());
     }
 
     // At a section whose contents, or its end where they are not searched, are from `from` on, in places

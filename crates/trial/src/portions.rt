@@ -3,7 +3,6 @@
 use crate::print::{begin, end, field, fields, refusal_field};
 use crate::script::{item, number, part};
 use crate::streams::{called, mode_of};
-use common::Refusal;
 use numbers::{byte_at, u64_at};
 use receiver::{Received, Receiver};
 use std::io;
@@ -11,8 +10,8 @@ use std::io;
 // What a reception came to: the finish's answer, and the fault found.
 #[derive(Clone, Copy, PartialEq, Eq)]
 struct Outcome {
-    answer: Result<Received, Refusal>,
-    fault: Option<Refusal>,
+    answer: Result<Received, u16>,
+    fault: Option<u16>,
 }
 
 // Receiving: the bytes that come, the type, the instance, the total announced, the portions' lengths, and
@@ -102,7 +101,7 @@ fn outcome_fields(out: &impl Print, outcome: Outcome) -> io::Result<()> {
                 received.part.end as u64,
             ],
         ),
-        Err(refusal) => refusal_field(out, refusal),
+        Err(fault) => field(out, fault),
     }
 }
 
@@ -110,16 +109,16 @@ fn outcome_fields(out: &impl Print, outcome: Outcome) -> io::Result<()> {
 fn fault_fields(out: &impl Print, bytes: &[u8], new: Receiver) -> io::Result<()> {
     let mut receiver = new;
     for (n, byte) in bytes.iter().enumerate() {
-        if let Some(refusal) = receiver.fault() {
+        if let Some(fault) = receiver.fault() {
             field(out, n)?;
-            return refusal_field(out, refusal);
+            return field(out, fault);
         }
         receiver.receive(&[*byte]);
     }
     match receiver.fault() {
-        Some(refusal) => {
+        Some(fault) => {
             field(out, bytes.len())?;
-            refusal_field(out, refusal)
+            field(out, fault)
         }
         None => {
             field(out, '-')?;

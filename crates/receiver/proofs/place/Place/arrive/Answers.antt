@@ -14,6 +14,6 @@ loop-self-preserved c =
 pub returns : goal.returns
 returns c =
     elim c.if-self-lt-COMMON_HEADER.branch [
-      | then-self-lt-COMMON_HEADER w ↦ rw w.self-is (at_201 _ _ _ _ c.loop-self-test.false w.if-self-lt-COMMON_HEADER.true ∙ c.loop-self.invariant.same)
+      | then-self-lt-COMMON_HEADER w ↦ rw w.self-is (rw w.number.ensures (at_201 _ _ _ _ c.loop-self-test.false w.if-self-lt-COMMON_HEADER.true ∙ c.loop-self.invariant.same))
       | else-self-lt-COMMON_HEADER w ↦ rw w.self-is (at_header _ _ _ _ w.if-self-lt-COMMON_HEADER.false ∙ c.loop-self.invariant.same)
     ]
