@@ -13,7 +13,8 @@ pub(crate) fn count_moved(len: usize, offset: usize, n: usize) -> usize
     n.min(len.saturating_sub(offset))
 }
 
-// Copies `count` bytes of the volume, from an offset of the block at `start`, to the start of the buffer.
+// Copies `count` bytes of the volume, from an offset of the block at `start`, to the start of the buffer. The count and no slice: it is what
+// the answer says, and callers would cut by it.
 pub(crate) fn load(volume: &[u8], start: usize, offset: usize, buffer: &mut [u8], count: usize)
     requires count_in_bounds { count ≤ length buffer.old }
     requires count_in_bounds_2 { 0 < count → start + offset + count ≤ length volume.now }

@@ -38,7 +38,7 @@ impl Portion {
 }
 
 // Stores the portion's bytes of the order of a good list, and answers how many bytes the order has; of a portion from 0 to 0 it stores
-// nothing and counts. One pass over the list, with a map scan for each run of blocks not named before; where a pair starts before the
+// nothing and counts, which is one walk more and no other. One pass over the list, with a map scan for each run of blocks not named before; where a pair starts before the
 // end of an earlier one, a second pass over the pairs before it, and the marks of `Walk::rest`.
 pub(crate) fn carry_list<L: EraseList>(
     words: &[u32],

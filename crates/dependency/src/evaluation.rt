@@ -73,7 +73,8 @@ fn run(expression: &[u8], installed: &Installed) -> Result<bool, Refusal>
     }
 }
 
-// The version that an opcode with its operand gives: that of the installed firmware, or the operand itself; 0 where it gives none.
+// The version that an opcode with its operand gives: that of the installed firmware, or the operand itself; 0 where it gives none,
+// which no step looks at: `None` is a GUID in no row.
 #[tactic(auto, using(crate::proofs::evaluation::Runs::given_guid, crate::proofs::evaluation::Runs::given_number, crate::proofs::evaluation::Runs::given_none))]
 fn given_version(opcode: Opcode, operand: &[u8], installed: &Installed) -> Option<u32>
     ensures { Given result (code_of opcode) (first_with installed.now.rows.now installed.now.versions.now) operand.now }

@@ -111,7 +111,7 @@ pub fn read_opcode(s: &[u8]) -> Result<Read, Refusal>
 }
 
 // Stores an opcode and its operand at the start of a room, and answers how many bytes these are; what follows the operand is
-// dropped, and the rest of the room stays. Refused with 301, 302 (too few bytes for the operand, or a text without a zero), 5 (the
+// dropped, and the rest of the room stays. The code is a number, since any byte is answered. Refused with 301, 302 (too few bytes for the operand, or a text without a zero), 5 (the
 // room), and then all of the room stays.
 pub fn write_opcode(code: u8, operand: &[u8], room: &mut [u8]) -> Result<usize, Refusal>
     ensures { wrote (written_answer result) room.new ≡ write_opcode code operand.now room.old }

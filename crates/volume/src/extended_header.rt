@@ -17,7 +17,8 @@ const SHORTEST_EXT_HEADER: usize = 20;
 
 const SHORTEST_ENTRY: usize = 4;
 
-// Whether a volume of this edition breaks rule 112, the header having `header` bytes and the volume `len`. Edition 1 has no extended header.
+// Whether a volume of this edition breaks rule 112, the header having `header` bytes and the volume `len`. Edition 1 has no extended header;
+// the edition is a number, as in `State`.
 #[tactic(auto, unfolding(crate::specs::ExtendedHeader::ext_fault, crate::specs::ExtendedHeader::ext_offset), using(std::proofs::lemmas::Bool::Decides::nat_tests))]
 pub(crate) fn ext_fault(s: &[u8], edition: u32, header: usize, len: usize) -> bool
     ensures { result ≡ ext_fault s.now header len (ext_offset edition s.now) }

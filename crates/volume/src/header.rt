@@ -158,7 +158,7 @@ fn add_word(sum: u16, word: u16) -> u16
     sum.wrapping_add(word)
 }
 
-// The file system GUID, bytes 16 to 31.
+// The file system GUID, bytes 16 to 31. Fv's `guid_in` reads a packed state's, from byte 0: the two are two lines each.
 fn guid_at(s: &[u8]) -> [u8; 16]
     requires { 32 ≤ length s.now }
     ensures { result ≡ take 16 (drop 16 s.now) }
@@ -168,7 +168,8 @@ fn guid_at(s: &[u8]) -> [u8; 16]
     guid
 }
 
-// Stores the words of n map entries, from byte 56 on, at the start of a map. The rest of it stays.
+// Stores the words of n map entries, from byte 56 on, at the start of a map. The rest of it stays. Fv's `words_in` has a number of words that the
+// compiler knows.
 fn read_map(s: &[u8], n: usize, map: &mut [u32])
     requires { (map_start + entry_length * n ≤ length s.now) × (2 * n ≤ length map.old) }
     ensures { map.new ≡ words_at (2 * n) s.now map_start ++ drop (2 * n) map.old }

@@ -16,7 +16,7 @@ use crate::header::{
 };
 use common::Refusal;
 
-// The edition of a header, and the offset of an extended header, which only the second has; 0 for none.
+// The edition of a header, and the offset of an extended header, which only the second has; 0 for none, as the header's field has it.
 #[derive(Clone, Copy, Debug, PartialEq, Eq)]
 pub enum Edition {
     Framework,
