@@ -69,19 +69,17 @@ pub(crate) fn pack(state: &State, room: &mut [u8])
     requires { state_bytes ≤ length room.old }
     ensures { room.new ≡ packed state.now ++ drop state_bytes room.old }
 {
-    let mut s = [0u8; STATE_BYTES];
-    numbers::store_bytes(&mut s, 0, &state.guid);
-    numbers::store(&mut s, LENGTH, 8, state.length);
-    numbers::store(&mut s, BASE, 8, state.base);
+    numbers::store_bytes(room, 0, &state.guid);
+    numbers::store(room, LENGTH, 8, state.length);
+    numbers::store(room, BASE, 8, state.base);
     store_pair(
         ATTRIBUTES,
         u64::from(state.attributes),
         u64::from(state.edition),
-        &mut s,
+        room,
     );
-    store_pair(PROTECTED, state.protected, state.entries as u64, &mut s);
-    store_map(&state.map, &mut s);
-    room[..STATE_BYTES].copy_from_slice(&s);
+    store_pair(PROTECTED, state.protected, state.entries as u64, room);
+    store_map(&state.map, room);
 }
 
 // Stores two fields of 32 bits that stand side by side.

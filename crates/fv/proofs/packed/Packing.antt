@@ -1,9 +1,9 @@
 -- Laws of packing and unpacking: the stores that make a packed state, its length, and that the first 304 bytes are all that unpacking reads.
 use Prim.Native.Nat.{ℕ, zero, suc, ◌+◌, ◌*◌, ◌≤◌}
 use mathlib.Core.Path.{◌≡◌, refl, sym, ap, ap₂, ◌∙◌}
-use mathlib.Core.List.{List, ◌∷◌, ◌++◌, append-nil}
+use mathlib.Core.List.{List, ◌∷◌, ◌++◌}
 use native.Mathlib.Omega.{arith}
-use lib.ListN.{length, take, drop, length-append, drop_of_length-le}
+use lib.ListN.{length, take, drop, length-append}
 use lib.Seq.{sets, get_or-take, take_at, take-take}
 use Rattle.common.proofs.Lists.{sets-append, sets_front}
 use Rattle.numbers.specs.LittleEndian.{le, le_bytes}
@@ -37,14 +37,12 @@ pack_stored st r g r1 r0 r2 r3 r4 r5 e1 e0 e2 e3 e4 e5 =
     ++ (le_bytes 4 st.attributes ++ (le_bytes 4 st.edition ++ (le_bytes 4 st.protected ++ (le_bytes 4 st.entries ++ words_bytes st.map))))) in
     rw (e5, e4, e3, e2, e0, e1) (sym (sets-append st.guid rest r 0 ∙ ap (λ (k : ℕ). sets (sets r 0 st.guid) (0 + k) rest) g))
 
--- on 304 bytes they leave the packed state, which is copied to the front of the room
-pub pack_done : (st : State) (r s room front : List ℕ) → length r ≡ state_bytes → length st.guid ≡ 16 → length st.map ≡ map_words
-    → s ≡ sets r 0 (packed st) → front ≡ s → front ++ drop state_bytes room ≡ packed st ++ drop state_bytes room
-pack_done st r s room front l g m e f =
+-- on 304 bytes or more they leave the packed state, and what lies behind it
+pub pack_done : (st : State) (r s : List ℕ) → length st.guid ≡ 16 → length st.map ≡ map_words → state_bytes ≤ length r → s ≡ sets r 0 (packed st)
+    → s ≡ packed st ++ drop state_bytes r
+pack_done st r s g m h e =
     let long = length-packed st g m in
-    let whole : s ≡ packed st =
-    e ∙ sets_front (packed st) r (omega arith) ∙ ap (λ (x : List ℕ). packed st ++ x) (drop_of_length-le r {i = length (packed st)} (omega arith)) ∙ append-nil (packed st) in
-    rw (f, whole)
+    e ∙ sets_front (packed st) r (omega arith) ∙ ap (λ (k : ℕ). packed st ++ drop k r) long
 
 -- ---- unpacking
 
