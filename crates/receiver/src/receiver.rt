@@ -1,5 +1,5 @@
 // The calls of a receiver: the announcement, a portion, the finish, and the fault found so far.
-ghost use Rattle.std.specs.Prelude.{◌≡◌, ◌<◌, ◌≤◌, true, length, replicate};
+ghost use Rattle.std.specs.Prelude.{◌≡◌, ◌<◌, ◌≤◌, true, length, replicate, IfSome};
 ghost use Rattle.common.specs.Refusal.{number};
 ghost use Rattle.sections.specs.Partial.{partial_answer};
 ghost use Rattle.receiver.specs.Receiver.{announced, announced_by, announcement_answer, announce_of, fault_answer, fault_of, finish_of, portion_of, received_answer, receiver_of, refused_by, sound};
@@ -102,12 +102,14 @@ impl Receiver {
         }
     }
 
-    // The fault that was found so far: once there is one, the finish answers it, whatever comes.
+    // The fault that was found so far, if there is one: the finish then answers it, whatever comes. The number 0, which no fault has, is none.
     #[tactic(auto, unfolding(crate::specs::Receiver::fault_of))]
     pub fn fault(&self) -> Option<u16>
-        ensures { fault_answer result ≡ fault_of (receiver_of self.now) }
+        ensures number { fault_answer result ≡ fault_of (receiver_of self.now) }
+        ensures none { IfSome result (λ fault. 0 < fault) }
     {
         match self.place.phase {
+            Phase::Refused(0) => None,
             Phase::Refused(fault) => Some(fault),
             _ => None,
         }

@@ -68,10 +68,12 @@ pub(crate) fn lines_field(out: &impl Print, s: &[u8]) -> io::Result<()> {
 // there on, and a checksum of all of them as they are now.
 pub(crate) fn change_fields(out: &impl Print, before: &[u8], after: &[u8]) -> io::Result<()> {
     let changed = |i: &usize| byte_at(after, *i) != byte_at(before, *i);
-    let first = (0..after.len()).find(changed);
-    let last = (0..after.len()).rev().find(changed);
-    field(out, (0..after.len()).filter(changed).count())?;
-    if let (Some(first), Some(last)) = (first, last) {
+    let count = (0..after.len()).filter(changed).count();
+    field(out, count)?;
+    // The first and the last are looked for only where there are some.
+    if count > 0 {
+        let first = (0..after.len()).find(changed).unwrap_or(0);
+        let last = (0..after.len()).rev().find(changed).unwrap_or(0);
         field(out, first)?;
         field(out, last)?;
         bytes_field(out, after.get(first..=last).unwrap_or(&[]))?;
