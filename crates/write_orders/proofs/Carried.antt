@@ -1,12 +1,13 @@
 -- A list of orders that is carried out in a loop: how it begins, what a turn leaves, and how it ends, in the form in which the code meets it.
 use Prim.Native.Nat.{ℕ, suc, ◌+◌, ◌≤◌}
-use mathlib.Core.Bool.{true, false, cond}
+use mathlib.Core.Bool.{Bool, true, false, cond}
 use mathlib.Core.List.{List, [], ◌∷◌}
 use mathlib.Core.Option.{some}
 use mathlib.Core.Path.{◌≡◌, refl, sym, ap, ◌∙◌}
 use native.Mathlib.Omega.{arith}
 use lib.ListN.{length, drop, drop_of_length-le}
-use Rattle.std.specs.Prelude.{Some}
+use Rattle.std.specs.Prelude as std
+use Rattle.std.specs.Prelude.{Option, Some}
 use Rattle.std.specs.List.{slice_get}
 use Rattle.std.proofs.lemmas.Option.{slice_get_within, get_or_from_slice_get}
 use lib.Seq.{drop-cons}
@@ -14,9 +15,11 @@ use Rattle.common.specs.Answers.{Answer, refused}
 use Rattle.common.specs.Refusals.{first_refusal}
 use Rattle.volume.specs.Attributes.{write_status}
 use Rattle.volume.specs.declared.state.State.{State}
-use Rattle.block_service.specs.Service.{lent_refusals, Result, result_of, step}
+use Rattle.common.specs.declared.refusal.Refusal.{Refusal}
+use Rattle.block_service.specs.Service.{lent_refusals, moved_answer, Result, result_of, step}
+use Rattle.block_service.specs.declared.service.Moved.{Moved}
 use Rattle.isolation.specs.Runs.{is_success}
-use Rattle.write_orders.specs.Orders.{call_of, batch, writes_from, nothing_yet, most_orders, write_orders}
+use Rattle.write_orders.specs.Orders.{call_of, batch, writes_from, written_of, nothing_yet, most_orders, write_orders}
 use Rattle.write_orders.specs.declared.Order.{Order}
 use Rattle.write_orders.proofs.Lists.{within_limit}
 use Rattle.write_orders.proofs.Turns.{lent_refused}
@@ -56,3 +59,10 @@ module _ (st : State) (d v₀ : List ℕ) (os : List Order) where
 
     pub goes_on : is_success a ≡ true → length after ≡ length v → Left (i + 1) a after
     goes_on e kept = let next : i + 1 ≡ suc i = omega arith in record { same = rw next (rw (e, next) at whole); long = kept ∙ left.long }
+
+  -- how it ends with an answer that is not success, from what the calls of a turn say
+  pub ends_shown : (i : ℕ) (last : std.Result Moved Refusal) (b : Answer) (v after : List ℕ) (order : Order) (found : Option Order) (succeeded : Bool)
+      → found ≡ Some order → found ≡ slice_get os i → Left i b v → result_of (moved_answer last) st after [] ≡ step st v (call_of st d order)
+      → succeeded ≡ is_success (moved_answer last) → succeeded ≡ false → written_of (record { count = i; last = last }) after ≡ write_orders st d v₀ os
+  unfolding written_of
+  ends_shown i last b v after order found succeeded is at left did told failed = ends_here _ _ _ _ _ _ (sym is ∙ at) left did (sym told ∙ failed)

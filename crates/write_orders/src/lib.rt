@@ -104,6 +104,7 @@ fn order_of(bytes: &[u8; ORDER_BYTES]) -> Order
 // empty list answers success and 0; then, at each order's turn, 111, 5, 15 (writes are disabled), 2 (the stretch leaves the data, also
 // an empty one that begins behind its end), 2 (no such block) or 15 (the block is protected). A short write ends the list and is not
 // counted; its bytes stay. Costs one test of the state, and for each order a scan of the map and the bytes that it stores.
+#[tactic(auto, using(crate::proofs::Carried::ends_shown))]
 pub fn write_orders<L: OrderList>(
     state: &State,
     volume: &mut [u8],

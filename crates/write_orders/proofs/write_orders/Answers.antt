@@ -5,7 +5,7 @@ use Rattle.std.proofs.lemmas.Grind.{common_steps}
 use Rattle.std.proofs.lemmas.Option.{gets}
 use Rattle.block_service.specs.Service.{moved_answer}
 use Rattle.write_orders.specs.Orders.{written_of}
-use Rattle.write_orders.proofs.Carried.{not_begun, begins, ended, ends_here, goes_on}
+use Rattle.write_orders.proofs.Carried.{not_begun, begins, ended, goes_on}
 use Rattle.write_orders.proofs.Lists.{too_many}
 use Rattle.write_orders.proofs.write_orders.Goals as goal
 
@@ -29,12 +29,6 @@ loop-i-init g c = begins _ _ _ (g.L.OrderList.orders c.args.orders) (omega (arit
 
 pub unwrap-order-requires : goal.unwrap-order-requires
 unwrap-order-requires g c = grind (arith, common_steps, gets, c.order.ensures, c.len-n.ensures)
-
-pub returns-then-not-succeeded : goal.returns-then-not-succeeded
-unfolding written_of
-returns-then-not-succeeded g c =
-    ends_here _ _ _ (g.L.OrderList.orders c.args.orders) _ _ _ _ _ _ (sym c.unwrap-order.ensures ∙ c.order.ensures) c.loop-i.invariant c.write_order-last.ensures
-    (sym c.succeeded.ensures ∙ c.if-not-succeeded.true)
 
 pub loop-i-preserved : goal.loop-i-preserved
 loop-i-preserved g c =
