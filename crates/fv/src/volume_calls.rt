@@ -22,17 +22,16 @@ pub fn fv_open(state: &mut [u8], volume: &[u8], base: u64) -> u32
     if state.len() < STATE_BYTES {
         return TOO_FEW;
     }
-    give_opening(open_volume(volume, base), state)
+    give_opening(&open_volume(volume, base), state)
 }
 
 // Gives what opening answered: the state, packed into the start of the room, or the refusal's number. A function of its own, so that what packing needs of
 // the stack is not there while opening runs.
-#[inline(never)]
-fn give_opening(opened: Result<State, Refusal>, room: &mut [u8]) -> u32
+fn give_opening(opened: &Result<State, Refusal>, room: &mut [u8]) -> u32
     requires { state_bytes ≤ length room.old }
-    ensures { called result (room.new ∷ []) ≡ called (number_of (opening_of opened).answer) (state_after (opening_of opened) room.old ∷ []) }
+    ensures { called result (room.new ∷ []) ≡ called (number_of (opening_of opened.now).answer) (state_after (opening_of opened.now) room.old ∷ []) }
 {
-    match &opened {
+    match opened {
         Ok(state) => {
             pack(state, room);
             0
