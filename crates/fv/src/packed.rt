@@ -69,7 +69,9 @@ pub(crate) fn pack(state: &State, room: &mut [u8])
     requires { state_bytes ≤ length room.old }
     ensures { room.new ≡ packed state.now ++ drop state_bytes room.old }
 {
-    numbers::store_bytes(room, 0, &state.guid);
+    // The GUID alone is copied first: stored from where it is, it has the compiler copy the whole state that a match gives.
+    let guid = state.guid;
+    numbers::store_bytes(room, 0, &guid);
     numbers::store(room, LENGTH, 8, state.length);
     numbers::store(room, BASE, 8, state.base);
     store_pair(

@@ -1,18 +1,14 @@
 // The calls on volumes: opening, read, write, erase, and the entries of an extended header.
 #![tactic(auto, unfolding(crate::specs::VolumeCalls::open_call, crate::specs::VolumeCalls::state_after, crate::specs::VolumeCalls::read_call, crate::specs::VolumeCalls::write_call, crate::specs::VolumeCalls::erase_call, crate::specs::Called::answer_call, volume::specs::Header::opening_of, block_service::specs::Service::erased_answer, common::specs::Refusals::first_refusal, common::specs::Answers::number_of, common::specs::Answers::values_of), using(std::proofs::lemmas::Bool::Decides::nat_tests, crate::proofs::packed::Packing::unpacked_front))]
 
-ghost use Rattle.std.specs.Prelude.{[], ◌∷◌, ◌≡◌, ◌≤◌, length};
-ghost use Rattle.common.specs.Answers.{number_of};
-ghost use Rattle.volume.specs.Header.{opening_of};
-ghost use Rattle.fv.specs.Packed.{state_bytes};
+ghost use Rattle.std.specs.Prelude.{[], ◌∷◌, ◌≡◌};
 ghost use Rattle.fv.specs.Called.{called};
-ghost use Rattle.fv.specs.VolumeCalls.{state_after, open_call, read_call, write_call, erase_call, entry_call};
+ghost use Rattle.fv.specs.VolumeCalls.{open_call, read_call, write_call, erase_call, entry_call};
 
 use crate::answer::{ANSWER_BYTES, TOO_FEW, give};
 use crate::packed::{STATE_BYTES, pack, unpack};
 use block_service::{ByteWords, erase_blocks, read, write};
-use common::Refusal;
-use volume::{State, ext_entry, open_volume};
+use volume::{ext_entry, open_volume};
 
 // Opens a volume at a base address and packs its state into the first 304 bytes lent for it. Refused with 5 (fewer are lent), then opening's numbers, 101 to 110
 // and 112.
@@ -22,19 +18,9 @@ pub fn fv_open(state: &mut [u8], volume: &[u8], base: u64) -> u32
     if state.len() < STATE_BYTES {
         return TOO_FEW;
     }
-    give_opening(open_volume(volume, base), state)
-}
-
-// Gives what opening answered: the state, packed into the start of the room, or the refusal's number. A function of its own, so that what packing needs of
-// the stack is not there while opening runs.
-#[inline(never)]
-fn give_opening(opened: Result<State, Refusal>, room: &mut [u8]) -> u32
-    requires { state_bytes ≤ length room.old }
-    ensures { called result (room.new ∷ []) ≡ called (number_of (opening_of opened).answer) (state_after (opening_of opened) room.old ∷ []) }
-{
-    match &opened {
-        Ok(state) => {
-            pack(state, room);
+    match open_volume(volume, base) {
+        Ok(opened) => {
+            pack(&opened, state);
             0
         }
         Err(refusal) => u32::from(refusal.number()),

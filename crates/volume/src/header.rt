@@ -58,8 +58,8 @@ pub fn open_volume(volume: &[u8], base: u64) -> Result<State, Refusal>
         map: [0; 64],
     };
     read_map(volume, state.entries, &mut state.map);
-    state.protected = state.block_count();
     test_fields(volume, &state)?;
+    state.protected = state.block_count();
     Ok(state)
 }
 
