@@ -26,26 +26,31 @@ pub(crate) fn find_place(words: &[u32], lent: usize, block: u64) -> Result<Block
     ensures found { IfOk result (λ found. place_of found ≡ place words.now block) }
     ensures within { IfOk result (λ found. found.start + found.len ≤ lent) }
 {
-    let mut start = 0;
+    // The lent bytes past those of the entries before the one at hand.
+    let mut room = lent;
     let mut rest = block as usize;
     // Document 01 names this form: the scan leaves from inside by break, with the entry and the block's start.
+    // The block is asked before the bytes of its entry, which both ways test: that saves a move at each entry.
     'scan: {
         for entry in 0..words.len() / 2 {
             let count = words[2 * entry] as usize;
             let len = words[2 * entry + 1] as usize;
-            let size = count * len;
-            if lent - start < size {
-                break 'scan Err(Refusal::BufferTooSmall);
-            }
             if rest < count {
+                if room < count * len {
+                    break 'scan Err(Refusal::BufferTooSmall);
+                }
                 break 'scan Ok(BlockPlace {
                     entry,
-                    start: start + rest * len,
+                    start: lent - room + rest * len,
                     len,
                     left: count - rest,
                 });
             }
-            start += size;
+            let size = count * len;
+            if room < size {
+                break 'scan Err(Refusal::BufferTooSmall);
+            }
+            room -= size;
             rest -= count;
         }
         Err(Refusal::InvalidParameter)
@@ -77,16 +82,20 @@ pub(crate) fn run_end(words: &[u32], place: &BlockPlace, count: usize) -> usize
     requires count_bound { place.now.start + first_byte (place.now.left ∷ place.now.len ∷ drop (2 * (place.now.entry + 1)) words.now) count ≤ max_length }
     ensures { result ≡ place.now.start + first_byte (place.now.left ∷ place.now.len ∷ drop (2 * (place.now.entry + 1)) words.now) count }
 {
-    let here = count.min(place.left);
-    let mut end = place.start + here * place.len;
-    let mut rest = count - here;
-    for next in place.entry + 1..words.len() / 2 {
-        if rest == 0 {
-            break;
-        }
+    if count <= place.left {
+        return place.start + count * place.len;
+    }
+    let mut end = place.start + place.left * place.len;
+    let mut rest = count - place.left;
+    // Counted by the entry before the next: so a search that ends in the place keeps no second number for this loop.
+    for before in place.entry..words.len() / 2 - 1 {
+        let next = before + 1;
         let n = rest.min(words[2 * next] as usize);
         end += n * words[2 * next + 1] as usize;
         rest -= n;
+        if rest == 0 {
+            break;
+        }
     }
     end
 }

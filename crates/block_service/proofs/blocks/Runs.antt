@@ -240,6 +240,9 @@ pub walk_first : (r l : ℕ) (rest : List ℕ) (n k : ℕ) → k ≡ min n r →
 unfolding first_byte
 walk_first r l rest n k e = let z : n - k ≡ n - r = omega arith in rw (z, e)
 
+pub no_blocks : (m : List ℕ) (b : ℕ) → b ≡ 0 → first_byte m b ≡ 0
+no_blocks m b e = rw (e, first_byte_zero m)
+
 -- ---- the turns of the code over a map's words
 
 -- where no entry i is left: it passes no lent bytes, the block is in none from it on, and no block is counted
@@ -312,6 +315,10 @@ module _ (w : List ℕ) (i : ℕ) where
   pub next_first : (b k : ℕ) → 2 * i + 1 < length w → k ≡ min b count → first_byte (drop (2 * i) w) b ≡ k * size + first_byte behind (b - k)
   next_first b k h e = rw (entry_words_lem h) (walk_first count size behind b k e)
 
+  -- and all of them are where none is left
+  pub last_first : (b k : ℕ) → 2 * i + 1 < length w → k ≡ min b count → b - k ≡ 0 → first_byte (drop (2 * i) w) b ≡ k * size
+  last_first b k h e z = omega (arith, next_first b k h e, no_blocks behind (b - k) z)
+
   -- the entry has the length of a run of equal blocks, and the run goes on with the next; or it has another, and the run stops
   pub next_equal : (len : ℕ) → 2 * i + 1 < length w → size ≡ len → equal_blocks (drop (2 * i) w) len ≡ count + equal_blocks behind len
   next_equal len h e = rw (entry_words_lem h) (equal_here count size behind len e)
@@ -345,13 +352,10 @@ blocks_split w (suc i) = let z : 2 * suc i ≡ suc (suc (2 * i)) = omega arith i
 pub equal_within : (w : List ℕ) (i len : ℕ) → equal_blocks (drop (2 * i) w) len ≤ blocks w
 equal_within w i len = omega (arith, equal_le (drop (2 * i) w) len, blocks_split w i)
 
-pub no_blocks : (m : List ℕ) (b : ℕ) → b ≡ 0 → first_byte m b ≡ 0
-no_blocks m b e = rw (e, first_byte_zero m)
-
 -- what the code that searches, the code that looks for a run's end, and the code that counts equal blocks are proved by
 pub ruleset search_turns = (end_outgrows, end_there, past_outgrows, here_outgrows, next_outgrows, here_there, next_there, here_place, next_place)
 
-pub ruleset end_turns = (walk_first, next_first, end_first, no_blocks)
+pub ruleset end_turns = (walk_first, next_first, last_first, end_first, no_blocks)
 
 pub ruleset equal_turns = (next_equal, other_equal, end_equal, equal_within)
 

@@ -8,8 +8,8 @@ abbrev pub invariant-loop-entry : goal.invariant-loop-entry
 invariant-loop-entry l =
     let left = drop (2 * l.entry) l.words in
     record {
-      lent : l.start ≤ l.lent;
-      long : outgrows left l.rest (l.lent - l.start) ≡ outgrows l.words l.block l.lent;
+      lent : l.room ≤ l.lent;
+      long : outgrows left l.rest l.room ≡ outgrows l.words l.block l.lent;
       there : leb (blocks left) l.rest ≡ leb (blocks l.words) l.block;
-      place : place_from left l.entry l.start l.rest ≡ place l.words l.block;
+      place : place_from left l.entry (l.lent - l.room) l.rest ≡ place l.words l.block;
     }
