@@ -53,6 +53,8 @@ impl TryFrom<u8> for Opcode {
 
     ghost try_from_gives = { Decodes };
 
+    // Inlined, so that a caller goes on by the number and makes no `Result` of it.
+    #[inline(always)]
     fn try_from(code: u8) -> Result<Opcode, Refusal> {
         match code {
             0x00 => Ok(Opcode::PushGuid),

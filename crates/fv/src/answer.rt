@@ -45,20 +45,26 @@ impl Outcome {
         }
     }
 
-    // Stores the two numbers at the start of an answer's bytes, and gives the number. What lies behind stays. The bytes are C's slice, whose length each call
-    // has tested. `first_chunk_mut` and an array in its place were tried: the last goal of each call that answers did not close.
+    // Stores the two numbers at the start of an answer's bytes, and gives the number. What lies behind stays.
     fn store(self, answer: &mut [u8]) -> u32
         requires { answer_bytes ≤ length answer.old }
         ensures number { result ≡ self.number }
         ensures stored { answer.new ≡ two_stored self.first self.second answer.old }
     {
-        // They are put into an array first, so that the compiler makes two stores of it.
-        let mut s = [0u8; ANSWER_BYTES];
-        numbers::store(&mut s, 0, 8, self.first);
-        numbers::store(&mut s, 8, 8, self.second);
-        answer[..ANSWER_BYTES].copy_from_slice(&s);
+        store_two(self.first, self.second, answer);
         self.number
     }
+}
+
+// Stores two numbers at the start of an answer's bytes. The bytes are C's slice, whose length each call has tested. `first_chunk_mut` was tried: the last goal
+// of each call that answers did not close. A function of its own, so that the compiler makes two stores of it before it sees that a number is a byte, as an
+// opcode is: it then stored that byte by byte.
+fn store_two(first: u64, second: u64, answer: &mut [u8])
+    requires { answer_bytes ≤ length answer.old }
+    ensures { answer.new ≡ two_stored first second answer.old }
+{
+    numbers::store(answer, 0, 8, first);
+    numbers::store(answer, 8, 8, second);
 }
 
 // A value that a call answers.
