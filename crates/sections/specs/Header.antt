@@ -1,6 +1,6 @@
 -- The header of one section (002, "Section Layout"; 01, "Sections"; 02, i): its fields, its faults and what it opens.
 -- A stream is a list of bytes; a byte past its end counts as 0.
-use Rattle.std.specs.Prelude.{ℕ, ◌+◌, ◌-◌, ◌%◌, ◌≤◌, ◌<◌, ◌^◌, Bool, true, false, cond, not, ◌&&◌, ◌||◌, List, [], ◌∷◌, ◌++◌, eqb, ltb, length, get_or, Option, Some, None, IfSome, Result, Ok, Err}
+use Rattle.std.specs.Prelude.{ℕ, ◌≡◌, ◌+◌, ◌-◌, ◌%◌, ◌≤◌, ◌<◌, ◌^◌, Bool, true, false, cond, not, ◌&&◌, ◌||◌, List, [], ◌∷◌, ◌++◌, eqb, ltb, length, get_or, Option, Some, None, IfSome, Result, Ok, Err}
 use Rattle.common.specs.Refusal.{number}
 use Rattle.common.specs.Refusals.{Row, row, first_refusal, unless_refused}
 use Rattle.common.specs.declared.refusal.Refusal.{Refusal}
@@ -180,6 +180,10 @@ unfoldable pub past_203 : List ℕ → (at : ℕ) → Header → Head
 past_203 s at x =
     cond (is_holder (type_info x.section_type).class) (holder_of s at x.section_type x.length x.size)
     (Closed x.section_type (at + x.length) (at + x.size))
+
+-- a header has the class of its type
+abbrev pub IsClassed : Header → Type 0
+IsClassed x = x.class ≡ (type_info x.section_type).class
 
 -- the first bytes of a section, so many where its header has 4, lie in the bytes that are read
 pub record Lies (s : List ℕ) (at : ℕ) (x : Header) (n : ℕ) : Type 0 where

@@ -1,10 +1,9 @@
 // Reading the header of the section at one start.
 ghost use Rattle.std.specs.Prelude.{◌≡◌, cond, ◌+◌, ◌≤◌, ◌<◌, ◌^◌, length, IfOk};
-ghost use Rattle.sections.specs.Header.{size_of, sized_at, head_of, head_at, IsWithin};
+ghost use Rattle.sections.specs.Header.{size_of, sized_at, head_of, head_at, IsClassed, IsWithin};
 
 use crate::types::{
-    COMMON_HEADER, COMPRESSION_HEADER, Class, GUID_DEFINED_HEADER, SECTION_COMPRESSION,
-    SECTION_GUID_DEFINED, type_info,
+    COMMON_HEADER, COMPRESSION_HEADER, Class, GUID_DEFINED_HEADER, SECTION_COMPRESSION, type_info,
 };
 use common::refusal::Refusal;
 
@@ -116,10 +115,11 @@ pub struct Section {
 }
 
 // What the first 4 or 8 bytes of a section say: its type, the length of this header and the size of the
-// section.
+// section. The class is the type's, which is asked once: so a leaf's tests go straight on to its end.
 #[derive(Clone, Copy, Debug, PartialEq, Eq)]
 pub(crate) struct Header {
     pub(crate) section_type: u8,
+    pub(crate) class: Class,
     pub(crate) length: usize,
     pub(crate) size: usize,
 }
@@ -135,10 +135,13 @@ pub(crate) fn read_section(mode: Mode, s: &[u8], at: usize) -> Result<Section, R
 }
 
 // The size reader: faults 201 to 203, in that order, or the header. `left` bytes are left in the stream
-// that holds the section; of the section its header alone is read.
+// that holds the section; of the section its header alone is read. It and `section` are marked to be compiled
+// into the walk and the partial reader: a header goes through memory at each call that is left.
+#[inline(always)]
 pub(crate) fn read_header(mode: Mode, s: &[u8], at: usize, left: usize) -> Result<Header, Refusal>
     requires { at + left < 2 ^ 64 }
-    ensures { size_of result ≡ sized_at mode left s.now at }
+    ensures sized { size_of result ≡ sized_at mode left s.now at }
+    ensures classed { IfOk result IsClassed }
 {
     if left < COMMON_HEADER {
         return Err(Refusal::SectionCut);
@@ -157,21 +160,24 @@ pub(crate) fn read_header(mode: Mode, s: &[u8], at: usize, left: usize) -> Resul
 
 impl Header {
     ghost use Rattle.sections.specs.Types.{type_info};
-    ghost use Rattle.sections.specs.Header.{size_of, tested_of, least_size, grown, head_of, contents_head, holder_of, past_203, Lies};
+    ghost use Rattle.sections.specs.Header.{size_of, tested_of, least_size, grown, head_of, contents_head, holder_of, past_203, is_holder, IsClassed, Lies};
+    ghost use Rattle.std.specs.Prelude.{true};
 
     // Past 201: faults 202 and 203, in that order, or the header. The class is asked first, so that each
     // class's tests are compiled with its own least size.
     #[tactic(auto, using(crate::proofs::types::Rows::least_range))]
     fn tested(section_type: u8, length: usize, size: usize, left: usize) -> Result<Header, Refusal>
         requires { (4 ≤ length) × (length ≤ 8) }
-        ensures { size_of result ≡ tested_of left (least_size length section_type) section_type length size }
+        ensures sized { size_of result ≡ tested_of left (least_size length section_type) section_type length size }
+        ensures classed { IfOk result IsClassed }
     {
+        let info = type_info(section_type);
         let header = Header {
             section_type,
+            class: info.class,
             length,
             size,
         };
-        let info = type_info(section_type);
         let least = header.grown(info.least);
         match info.class {
             Class::OpenableHolder => header.fitting(least, left),
@@ -182,7 +188,9 @@ impl Header {
 
     // Faults 202 and 203, in that order, of a section that has at least `least` bytes, or its header.
     fn fitting(self, least: usize, left: usize) -> Result<Header, Refusal>
-        ensures { size_of result ≡ tested_of left least self.section_type self.length self.size }
+        requires { IsClassed self }
+        ensures sized { size_of result ≡ tested_of left least self.section_type self.length self.size }
+        ensures classed { IfOk result IsClassed }
     {
         if self.size < least {
             return Err(Refusal::SectionTooShort);
@@ -203,14 +211,15 @@ impl Header {
     }
 
     // Past 203: the section, or a holder's fault 204. Of the section a holder's own fields alone are read.
+    #[inline(always)]
     pub(crate) fn section(&self, s: &[u8], at: usize) -> Result<Section, Refusal>
-        requires { Lies s.now at self.now (type_info self.now.section_type).least }
+        requires { Lies s.now at self.now (type_info self.now.section_type).least × IsClassed self.now }
         ensures { head_of result ≡ past_203 s.now at self.now }
     {
-        let contents = match self.section_type {
-            SECTION_COMPRESSION => self.compression_contents(s, at)?,
-            SECTION_GUID_DEFINED => self.guid_defined_contents(s, at)?,
-            _ => None,
+        let contents = match self.class {
+            Class::OpenableHolder => self.holder_contents(s, at)?,
+            Class::GuidHeadedLeaf => None,
+            Class::PlainLeaf => None,
         };
         Ok(Section {
             section_type: self.section_type,
@@ -220,8 +229,19 @@ impl Header {
         })
     }
 
-    // Where the contents of a compression section start that are searched: none where they are packed, or
-    // fault 204.
+    // Where the contents of a holder start that are searched: none where they are packed, or fault 204.
+    fn holder_contents(&self, s: &[u8], at: usize) -> Result<Option<usize>, Refusal>
+        requires { Lies s.now at self.now (type_info self.now.section_type).least × (is_holder (type_info self.now.section_type).class ≡ true) }
+        ensures { contents_head self.now at result ≡ holder_of s.now at self.now.section_type self.now.length self.now.size }
+    {
+        if self.section_type == SECTION_COMPRESSION {
+            self.compression_contents(s, at)
+        } else {
+            self.guid_defined_contents(s, at)
+        }
+    }
+
+    // The same of a compression section.
     fn compression_contents(&self, s: &[u8], at: usize) -> Result<Option<usize>, Refusal>
         requires { Lies s.now at self.now 9 × (self.now.section_type ≡ 1) }
         ensures { contents_head self.now at result ≡ holder_of s.now at self.now.section_type self.now.length self.now.size }
@@ -238,7 +258,7 @@ impl Header {
         Ok(Some(at + own))
     }
 
-    // The same of a GUID-defined section.
+    // And of a GUID-defined section.
     fn guid_defined_contents(&self, s: &[u8], at: usize) -> Result<Option<usize>, Refusal>
         requires { Lies s.now at self.now 24 × (self.now.section_type ≡ 2) }
         ensures { contents_head self.now at result ≡ holder_of s.now at self.now.section_type self.now.length self.now.size }

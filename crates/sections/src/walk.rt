@@ -80,17 +80,34 @@ pub(crate) fn walk_stream(
     // Each turn goes on to the start after the section that it read.
     while at < s.len() {
         let section = read_section(mode, s, at)?;
-        if section.contents.is_some() && below == 0 {
-            return Err(Refusal::TooDeep);
-        }
-        // A holder before its children.
-        if let Walk::Stopped = wanted.visit(&section, base) {
-            return Ok(Walk::Stopped);
-        }
-        if let Some(from) = section.contents {
-            let contents = &s[from..section.end];
-            if let Walk::Stopped = walk_stream(mode, contents, base + from, below - 1, wanted)? {
-                return Ok(Walk::Stopped);
+        match section.contents {
+            None => {
+                if let Walk::Stopped = wanted.visit(&section, base) {
+                    return Ok(Walk::Stopped);
+                }
+            }
+            Some(from) => {
+                if below == 0 {
+                    return Err(Refusal::TooDeep);
+                }
+                // A holder before its children.
+                if let Walk::Stopped = wanted.visit(&section, base) {
+                    return Ok(Walk::Stopped);
+                }
+                let contents = &s[from..section.end];
+                if let Walk::Stopped = walk_stream(
+                    mode,
+                    contents,
+                    base + from,
+                    below - 1,
+                    wanted,
+                )? {
+                    return Ok(Walk::Stopped);
+                }
+                // Where it ends the stream, no padding follows.
+                if s.len() == section.end {
+                    return Ok(Walk::Ended);
+                }
             }
         }
         at = next_start(s, section.end)?;

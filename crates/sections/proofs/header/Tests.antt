@@ -83,9 +83,9 @@ module _ (mode : Mode) (left : ℕ) (s : List ℕ) (at : ℕ) where
   pub in_of_refused : {n : ℕ} → Refused n ≡ sized_at mode left s at → Fault n ≡ head_in mode left s at
   in_of_refused p = sym (in_refused (is_refused (sym p)))
 
-  pub in_of_sized : {x : Header} {r : Head} → Sized x.section_type x.length x.size ≡ sized_at mode left s at → r ≡ past_203 s at x → r ≡ head_in mode left s at
+  pub in_of_sized : (x : Header) {r : Head} → Sized x.section_type x.length x.size ≡ sized_at mode left s at → r ≡ past_203 s at x → r ≡ head_in mode left s at
   unfolding past_203
-  in_of_sized {x} {r} p q = go (is_holder (type_info (type_at s at)).class) refl
+  in_of_sized x {r} p q = go (is_holder (type_info (type_at s at)).class) refl
     where
       h : Headed x.section_type x.length x.size
       h = is_sized (sym p)
@@ -134,9 +134,9 @@ module _ (mode : Mode) (s : List ℕ) (at : ℕ) where
   unfolding head_at
   head_of_refused = in_of_refused mode (length s - at) s at
 
-  pub head_of_sized : {x : Header} {r : Head} → Sized x.section_type x.length x.size ≡ sized_at mode (length s - at) s at → r ≡ past_203 s at x → r ≡ head_at mode s at
+  pub head_of_sized : (x : Header) {r : Head} → Sized x.section_type x.length x.size ≡ sized_at mode (length s - at) s at → r ≡ past_203 s at x → r ≡ head_at mode s at
   unfolding head_at
-  head_of_sized {x} = in_of_sized mode (length s - at) s at {x = x}
+  head_of_sized = in_of_sized mode (length s - at) s at
 
   pub lies : {x : Header} → Sized x.section_type x.length x.size ≡ sized_at mode (length s - at) s at → at < length s → length s < 18446744073709551616
       → Lies s at x (type_info x.section_type).least

@@ -129,10 +129,10 @@ module _ (mode : Mode) (left : ℕ) (s : List ℕ) (at : ℕ) where
         go (is_leaf f _ x) = absurd (no_fit f)
         go (is_holder_lem f _ x) = absurd (no_fit f)
 
-  pub says_past : {x : Header} {v : Head} → Sized x.section_type x.length x.size ≡ sized_at mode left s at → v ≡ past_203 s at x
+  pub says_past : (x : Header) {v : Head} → Sized x.section_type x.length x.size ≡ sized_at mode left s at → v ≡ past_203 s at x
       → Says v (x.length + fields_for x.section_type v)
   unfolding past_203 fields_for own_fields
-  says_past {x} {v} p q = go (is_holder (type_info t).class) refl
+  says_past x {v} p q = go (is_holder (type_info t).class) refl
     where
       k : Headed mode left s at x.section_type x.length x.size
       k = is_sized mode left s at (sym p)
@@ -256,11 +256,11 @@ tested_least u v = go (is_holder (type_info u).class) refl v
     go true e (Open w first from end) = contents_own u e
 
 -- the code's tests of a section that passed 201 to 203, of which so many bytes came
-module _ (mode : Mode) (left : ℕ) (s : List ℕ) (have : ℕ) {x : Header} (p : Sized x.section_type x.length x.size ≡ sized_at mode left s 0) where
+module _ (mode : Mode) (left : ℕ) (s : List ℕ) (have : ℕ) (x : Header) (p : Sized x.section_type x.length x.size ≡ sized_at mode left s 0) where
   pub waits_tested : {k : ℕ} → k ≡ tested_fields x.section_type → have < x.length + k → Partial.Waiting ≡ partial_of mode s have left
   waits_tested e few =
       let l = tested_least x.section_type (past_203 s 0 x) in
-      part_waits mode left s have (omega (arith, (says_past mode left s 0 {x = x} p refl).1))
+      part_waits mode left s have (omega (arith, (says_past mode left s 0 x p refl).1))
 
   pub finds_204 : {k n : ℕ} → k ≡ tested_fields x.section_type → x.length + k ≤ have → Fault n ≡ past_203 s 0 x → Partial.Fault n ≡ partial_of mode s have left
   unfolding past_203 fields_for decided
@@ -269,7 +269,7 @@ module _ (mode : Mode) (left : ℕ) (s : List ℕ) (have : ℕ) {x : Header} (p 
       go : (b : Bool) → is_holder (type_info x.section_type).class ≡ b → Partial.Fault n ≡ partial_of mode s have left
       go true h =
           let j : k ≡ contents_fields x.section_type = rw h at e in
-          part_finds mode left s have (says_past mode left s 0 {x = x} p q) (omega arith)
+          part_finds mode left s have (says_past mode left s 0 x p q) (omega arith)
       go false h =
           let f : Fault n ≡ Closed x.section_type (0 + x.length) (0 + x.size) = rw h at q in
           let z : ◌≡◌ {A = ℕ} 0 1 = cc in absurd (omega arith)
@@ -284,10 +284,10 @@ module _ (mode : Mode) (left : ℕ) (s : List ℕ) (have : ℕ) {x : Header} (p 
         go (Some from) = refl
 
     pub waits_own : have < x.length + k → Partial.Waiting ≡ partial_of mode s have left
-    waits_own few = part_waits mode left s have (omega (arith, (says_past mode left s 0 {x = x} p q).1, own))
+    waits_own few = part_waits mode left s have (omega (arith, (says_past mode left s 0 x p q).1, own))
 
     pub finds_section : x.length + k ≤ have → decided (opened y.section_type y.first y.end y.contents) ≡ partial_of mode s have left
-    finds_section enough = part_finds mode left s have (says_past mode left s 0 {x = x} p q) (omega (arith, own))
+    finds_section enough = part_finds mode left s have (says_past mode left s 0 x p q) (omega (arith, own))
 
 -- no header needs more than 28 bytes
 pub fields_most : (u : ℕ) (x : Head) → fields_for u x ≤ 20

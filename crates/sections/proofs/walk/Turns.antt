@@ -13,7 +13,7 @@ use Rattle.sections.specs.Seek.{Seek, visited, halted, run}
 use Rattle.sections.specs.declared.header.Mode.{Mode}
 use Rattle.sections.specs.declared.header.Section.{Section}
 use Rattle.sections.proofs.walk.Carried.{Final, run_then}
-use Rattle.sections.proofs.walk.Padding.{padding_zero, padding_207}
+use Rattle.sections.proofs.walk.Padding.{zeros_past, padding_zero, padding_207}
 use Rattle.sections.proofs.walk.Starts.{walk_from, walk-from_start, walk_end, walk_fault, walk_closed, walk_205, walk_open}
 
 module _ (mode : Mode) where
@@ -64,6 +64,10 @@ module _ (mode : Mode) where
             go None h some = let y : ◌≡◌ {A = ℕ} 0 1 = cc in absurd (omega arith)
             go (Some from) h some = sym (rw (z, walk_205 mode s base at here (sym h)) at g.same)
 
+        -- after its children, with d to carry on: its padding, and the walk from the next start on
+        abbrev pub Behind : Seek → Type 0
+        Behind d = x ≡ run w d (after_padding s base k.end (walk_from mode n s base))
+
         -- b: after the section itself
         module _ (deep : is_some k.contents ≡ true → n ≡ 0 → ⊥) {b : Seek} (v : b ≡ visited w a k.section_type (base + k.first) (base + k.end)) where
           turned : x ≡ run w b (and_then (inner n s base k.end k.contents) (after_padding s base k.end (walk_from mode n s base)))
@@ -76,17 +80,26 @@ module _ (mode : Mode) where
 
           -- d: after its children, run from b
           module _ {d : Seek} (children : d ≡ run w b (inner n s base k.end k.contents)) where
-            after : x ≡ run w d (after_padding s base k.end (walk_from mode n s base))
-            after = turned ∙ run_then w b (inner n s base k.end k.contents) (after_padding s base k.end (walk_from mode n s base))
+            pub turn_behind : Behind d
+            turn_behind = turned ∙ run_then w b (inner n s base k.end k.contents) (after_padding s base k.end (walk_from mode n s base))
                 ∙ ap (λ (y : Seek). run w y (after_padding s base k.end (walk_from mode n s base))) (sym children)
 
             -- it ended there
             pub turn_children : Final w d → d ≡ x
-            turn_children ended = sym (after ∙ ended _)
+            turn_children ended = sym (turn_behind ∙ ended _)
 
-            pub turn_next : {next : ℕ} → next ≡ aligned k.end → zeros s k.end (next - k.end) ≡ true → Going n s base w x d next
-            turn_next up z = record { same = rw up (rw (padding_zero s base k.end (walk_from mode n s base) (rw up at z)) at after) }
+        module _ (d : Seek) (behind : Behind d) where
+          pub turn_next : {next : ℕ} → next ≡ aligned k.end → zeros s k.end (next - k.end) ≡ true → Going n s base w x d next
+          turn_next up z = record { same = rw up (rw (padding_zero s base k.end (walk_from mode n s base) (rw up at z)) at behind) }
 
-            pub turn_207 : zeros s k.end (aligned k.end - k.end) ≡ false → halted 207 d ≡ x
-            unfolding run
-            turn_207 z = sym (rw (padding_207 s base k.end (walk_from mode n s base) z) at after)
+          pub turn_207 : zeros s k.end (aligned k.end - k.end) ≡ false → halted 207 d ≡ x
+          unfolding run
+          turn_207 z = sym (rw (padding_207 s base k.end (walk_from mode n s base) z) at behind)
+
+          -- it ends the stream, so that no padding follows
+          pub turn_end : length s ≤ k.end → d ≡ x
+          unfolding run
+          turn_end h =
+              let z = zeros_past s k.end (aligned k.end - k.end) h in
+              let up : length s ≤ aligned k.end = omega arith in
+              sym (rw (padding_zero s base k.end (walk_from mode n s base) z) at behind ∙ ap (run w d) (walk_end mode n s base (aligned k.end) up))

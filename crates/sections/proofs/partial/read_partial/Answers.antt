@@ -34,12 +34,12 @@ returns-then-have-length c = waits_header _ _ _ _ (search rules) (headed (goal.a
 pub returns-in_err-header : goal.returns-in_err-header
 returns-in_err-header c =
     let p = err_from_is_err_and c.from_residual.result c.from_residual.ensures.1 in
-    rw (p.1, p.2) (finds_refused _ _ _ _ (search rules) (headed (goal.at.returns-in_err-header c).After-header_length-length) (search rules) (search rules) c.in_err-header.ensures)
+    rw (p.1, p.2) (finds_refused _ _ _ _ (search rules) (headed (goal.at.returns-in_err-header c).After-header_length-length) (search rules) (search rules) c.in_err-header.ensures.sized)
 
 -- the header that was read has 4 to 8 bytes
 short : (c : In_ok-header) → c.in_ok-header.header.length ≤ 8
 short c =
-    let h = is_sized c.args.mode c.args.left c.args.bytes.now 0 (sym c.in_ok-header.ensures) in
+    let h = is_sized c.args.mode c.args.left c.args.bytes.now 0 (sym c.in_ok-header.ensures.sized) in
     let r = header_range c.args.mode c.args.bytes.now 0 in
     omega (arith, h.headed)
 
@@ -50,19 +50,19 @@ overflow_add-header c =
     omega (arith, tested_most c.in_ok-header.header.section_type)
 
 pub returns-then-have-header : goal.returns-then-have-header
-returns-then-have-header c = waits_tested _ _ _ _ c.in_ok-header.ensures c.contents_fields.ensures (search rules)
+returns-then-have-header c = waits_tested _ _ _ _ c.in_ok-header.header c.in_ok-header.ensures.sized c.contents_fields.ensures (search rules)
 
 pub section-requires : goal.section-requires
 section-requires c =
     let s = short (goal.at.section-requires c).In_ok-header in
     let l = least_range c.in_ok-header.header.section_type in
     let n : length c.args.bytes.now ≡ 28 = search rules in
-    in_lies _ _ _ _ c.in_ok-header.ensures (omega arith) (search rules)
+    (in_lies _ _ _ _ c.in_ok-header.ensures.sized (omega arith) (search rules), c.in_ok-header.ensures.classed)
 
 pub returns-in_err-section : goal.returns-in_err-section
 returns-in_err-section c =
     let p = err_from_is_err_and c.from_residual-in_err-section.result c.from_residual-in_err-section.ensures.1 in
-    rw (p.1, p.2) (finds_204 _ _ _ _ c.in_ok-header.ensures c.contents_fields.ensures (search rules) c.in_err-section.ensures)
+    rw (p.1, p.2) (finds_204 _ _ _ _ c.in_ok-header.header c.in_ok-header.ensures.sized c.contents_fields.ensures (search rules) c.in_err-section.ensures)
 
 pub overflow_add-header-2 : goal.overflow_add-header-2
 overflow_add-header-2 c =
@@ -71,7 +71,7 @@ overflow_add-header-2 c =
     omega (arith, own_most c.in_ok-header.header.section_type)
 
 pub returns-then-have-header-2 : goal.returns-then-have-header-2
-returns-then-have-header-2 c = waits_own _ _ _ _ c.in_ok-header.ensures c.in_ok-section.section c.own_fields.ensures c.in_ok-section.ensures (search rules)
+returns-then-have-header-2 c = waits_own _ _ _ _ c.in_ok-header.header c.in_ok-header.ensures.sized c.in_ok-section.section c.own_fields.ensures c.in_ok-section.ensures (search rules)
 
 pub returns : goal.returns
-returns c = finds_section _ _ _ _ c.in_ok-header.ensures c.in_ok-section.section c.own_fields.ensures c.in_ok-section.ensures (search rules)
+returns c = finds_section _ _ _ _ c.in_ok-header.header c.in_ok-header.ensures.sized c.in_ok-section.section c.own_fields.ensures c.in_ok-section.ensures (search rules)
