@@ -104,6 +104,10 @@ pub(crate) fn walk_stream(
                 )? {
                     return Ok(Walk::Stopped);
                 }
+                // Where it ends the stream, no padding follows.
+                if s.len() == section.end {
+                    return Ok(Walk::Ended);
+                }
             }
         }
         at = next_start(s, section.end)?;

@@ -13,7 +13,7 @@ use Rattle.sections.specs.Seek.{Seek, visited, halted, run}
 use Rattle.sections.specs.declared.header.Mode.{Mode}
 use Rattle.sections.specs.declared.header.Section.{Section}
 use Rattle.sections.proofs.walk.Carried.{Final, run_then}
-use Rattle.sections.proofs.walk.Padding.{padding_zero, padding_207}
+use Rattle.sections.proofs.walk.Padding.{zeros_past, padding_zero, padding_207}
 use Rattle.sections.proofs.walk.Starts.{walk_from, walk-from_start, walk_end, walk_fault, walk_closed, walk_205, walk_open}
 
 module _ (mode : Mode) where
@@ -95,3 +95,11 @@ module _ (mode : Mode) where
           pub turn_207 : zeros s k.end (aligned k.end - k.end) ≡ false → halted 207 d ≡ x
           unfolding run
           turn_207 z = sym (rw (padding_207 s base k.end (walk_from mode n s base) z) at behind)
+
+          -- it ends the stream, so that no padding follows
+          pub turn_end : length s ≤ k.end → d ≡ x
+          unfolding run
+          turn_end h =
+              let z = zeros_past s k.end (aligned k.end - k.end) h in
+              let up : length s ≤ aligned k.end = omega arith in
+              sym (rw (padding_zero s base k.end (walk_from mode n s base) z) at behind ∙ ap (run w d) (walk_end mode n s base (aligned k.end) up))

@@ -1,5 +1,8 @@
 -- `walk_stream` meets its contract, turn by turn.
-use Prim.Native.Nat.{ℕ}
+use Prim.Native.Nat.{ℕ, ◌≤◌}
+use lib.ListN.{length}
+use borrow.Author.Rules.{rules}
+use native.Mathlib.Omega.{arith}
 use mathlib.Core.Path.{◌≡◌, refl, sym, ap, ◌∙◌}
 use Rattle.std.specs.Option.{is_some}
 use Rattle.std.proofs.lemmas.Bool.{false≢true}
@@ -7,10 +10,10 @@ use Rattle.std.proofs.lemmas.Result.{err_from_is_err_and}
 use Rattle.sections.specs.Seek.{run, carried}
 use Rattle.sections.specs.declared.walk.Walk.TheVariants.{Ended}
 use Rattle.sections.proofs.walk.Carried.{carried_fault, ended_refused, ended_stopped}
-use Rattle.sections.proofs.walk.Turns.{Behind, going_start, going_end, turn_fault, turn_205, turn_stop, turn_children, turn_behind, turn_next, turn_207}
+use Rattle.sections.proofs.walk.Turns.{Behind, going_start, going_end, turn_fault, turn_205, turn_stop, turn_children, turn_behind, turn_next, turn_207, turn_end}
 use Rattle.sections.proofs.walk.+walk_stream.Goals as goal
 use Rattle.sections.proofs.walk.+walk_stream.Goals.{After-next_start}
-use Rattle.sections.proofs.walk.+walk_stream.Goals.{in-None+in_default, in-Some+else-below-eq0+in_default-visit+in_ok-walk_stream-in-Some+in_default-2}
+use Rattle.sections.proofs.walk.+walk_stream.Goals.{in-None+in_default, in-Some+else-below-eq0+in_default-visit+in_ok-walk_stream-in-Some+in_default-2+else-s-section}
 
 pub loop-at-init : goal.loop-at-init
 loop-at-init t c = record { same = refl; going = going_start _ _ _ _ _ _ }
@@ -57,13 +60,25 @@ returns-in-Stopped-2-clause-walked t c =
     (rw c.loop-at.invariant.same at c.in_default-visit.ensures.visited) (rw c.in-Some.is (rw (kept, c.in-Stopped-2.is) at c.in_ok-walk_stream-in-Some.ensures.walked))
     (ended_stopped _ _)
 
+-- a holder that ends the stream
+pub returns-then-s-section-clause-walked : goal.returns-then-s-section-clause-walked
+returns-then-s-section-clause-walked t c =
+    let e : length c.args.s.now ≡ c.in_ok-section.section.end = search rules in
+    let ends : length c.args.s.now ≤ c.in_ok-section.section.end = omega arith in
+    let kept = c.in_default-visit.ensures.same ∙ c.loop-at.invariant.same in
+    let behind = turn_behind _ c.loop-at.invariant.going c.loop-at-test.true c.in_ok-section.section c.in_ok-section.ensures.read
+    (λ some zero. c.if-below-eq0.false zero)
+    (rw c.loop-at.invariant.same at c.in_default-visit.ensures.visited)
+    (rw c.in-Some.is (rw (kept, c.in_default-2.is) at c.in_ok-walk_stream-in-Some.ensures.walked)) in
+    turn_end _ c.loop-at.invariant.going c.loop-at-test.true c.in_ok-section.section c.in_ok-section.ensures.read _ behind ends
+
 -- after the children, where there are any
 joined : (t : ℕ) (c : After-next_start t) → (c.match-section.wanted.section_type ≡ c.args.wanted.now.section_type)
     × (Behind c.args.mode c.loop-at.invariant.going c.loop-at-test.true c.in_ok-section.section c.in_ok-section.ensures.read (carried Ended c.match-section.wanted))
 unfolding run
 joined t c =
     elim c.match-section.branch [
-      | in-Some+else-below-eq0+in_default-visit+in_ok-walk_stream-in-Some+in_default-2 w ↦
+      | in-Some+else-below-eq0+in_default-visit+in_ok-walk_stream-in-Some+in_default-2+else-s-section w ↦
           let kept = w.in_default-visit.ensures.same ∙ c.loop-at.invariant.same in
           rw w.wanted-is (
             w.in_ok-walk_stream-in-Some.ensures.same ∙ kept,
