@@ -85,6 +85,7 @@ pub(crate) fn list_refusal<L: EraseList>(total: u64, protected: u64, list: L) ->
 }
 
 // Whether a good list names a protected block. Refused with 2 where the list is bad, whatever it names.
+#[tactic(auto, using(crate::proofs::erase::Lists::bad_shown))]
 pub(crate) fn list_reaches<L: EraseList>(
     total: u64,
     protected: u64,

@@ -1,5 +1,5 @@
 -- Laws of erase lists: a list from place i on, as a walk over its pairs meets it; the blocks from a block on; and that a good list names blocks that are there.
-use Prim.Native.Nat.{ℕ, suc, ◌+◌, ◌-◌, ◌≤◌, ◌<◌}
+use Prim.Native.Nat.{ℕ, suc, ◌+◌, ◌-◌, ◌*◌, ◌/◌, ◌≤◌, ◌<◌}
 use mathlib.Core.Path.{◌≡◌, refl, sym, ◌∙◌}
 use mathlib.Core.Bool.{Bool, true, false, not, ◌&&◌, ◌||◌, and_assoc, or-true, true≢false}
 use mathlib.Core.List.{List, [], ◌∷◌}
@@ -156,6 +156,15 @@ judged_ok false reached t e = absurd (cc)
 pub judged_err : (good reached : Bool) (e : Refusal) → Err e ≡ judged_list good reached → (good ≡ false) × (number e ≡ 2)
 judged_err true reached e h = absurd (cc)
 judged_err false reached e h = (refl, let z : e ≡ R.InvalidParameter = cc in rw z)
+
+-- a list of which a pair does not fit is bad, from what the walk says of it at the pair
+pub bad_shown : (total m n j first count : ℕ) (w : List ℕ) (reached fits : Bool)
+    → n ≡ length w / 2 → j < n → (first ≡ get_or w (2 * j) 0) × (count ≡ get_or w (2 * j + 1) 0) → (first ≡ end_of_list → ⊥)
+    → fits ≡ (not (eqb count 0) && leb (first + count) total) → fits ≡ false
+    → good_list total (drop (2 * j) w) ≡ good_list total w → Err R.InvalidParameter ≡ judged_list (good_list total w) (reaches m w)
+bad_shown total m n j first count w reached fits half within pair other is unfit good =
+    let none : false ≡ good_list total w = bad_pair w (2 * j) first count (omega arith) pair.0 pair.1 other total fits is unfit ∙ good in
+    rw (← none)
 
 -- ---- the blocks from block m on
 

@@ -9,7 +9,7 @@ use lib.ListN.{length, get_or, drop}
 use Rattle.std.specs.Prelude.{Ok, Err}
 use Rattle.common.specs.declared.refusal.Refusal.TheVariants as R
 use Rattle.block_service.specs.Erase.{end_of_list, good_list, reaches, judged_list}
-use Rattle.block_service.proofs.erase.Lists.{fits_known, ends_good, ends-reaches, ended_within, not_ended, bad_pair, good_pair, reach_hit, reach_miss}
+use Rattle.block_service.proofs.erase.Lists.{fits_known, ends_good, ends-reaches, ended_within, not_ended, good_pair, reach_hit, reach_miss}
 use Rattle.block_service.proofs.erase.list_reaches.Goals as goal
 use Rattle.block_service.proofs.erase.list_reaches.Goals.{then-protected-first, else-protected-first}
 
@@ -27,12 +27,6 @@ module _ (total m : ℕ) (w : List ℕ) (i : ℕ) (reached : Bool) (good : good_
 
 pub returns-then-first : goal.returns-then-first
 returns-then-first g c = ended _ _ _ _ _ c.loop-j.invariant.good c.loop-j.invariant.reach (sym c.pair-first.ensures.0 ∙ search rules)
-
-pub returns-then-not-pair_fits : goal.returns-then-not-pair_fits
-returns-then-not-pair_fits g c =
-    let w = g.L.EraseList.words c.args.list in
-    bad _ _ w _ c.loop-j.reached c.loop-j.invariant.good c.loop-j.invariant.reach
-    (bad_pair w (2 * c.loop-j.j) _ _ (omega (arith, c.pairs-pairs.ensures)) c.pair-first.ensures.0 c.pair-first.ensures.1 (search rules) _ _ c.pair_fits.ensures c.if-not-pair_fits.true)
 
 pub loop-j-preserved : goal.loop-j-preserved
 loop-j-preserved g c =
